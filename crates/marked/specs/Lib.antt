@@ -1,0 +1,2 @@
+pub mod RecordedFiles
+pub mod MarkedForTheTable

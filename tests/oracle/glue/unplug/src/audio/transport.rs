@@ -1,0 +1,3 @@
+// Stands in for unplug's transport.rs: HPS alone.
+pub mod hps;
+pub use hps::HpsReader;

@@ -15,7 +15,7 @@ pub record Due : Type 0 where
 abbrev pub due : ℕ → Bool → Due
 due n b = record { holds = b; number = n }
 
--- "refused by the first number due": of an order of refusals, 0 where none is
+-- "A call gets the first number due in its order": of an order of refusals, 0 where none is
 unfoldable pub firstDue : List Due → ℕ
 firstDue [] = 0
 firstDue (d ∷ ds) = pick (d .holds) (d .number) (firstDue ds)

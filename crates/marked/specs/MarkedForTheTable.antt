@@ -1,5 +1,5 @@
 -- Marked for the table (document 01): the marked cases, the worked example and each refusal, computed; one table, one lemma (proofs/marked_cases).
-use Prim.Native.Nat.{ℕ, zero, suc}
+use Prim.Native.Nat.{ℕ, zero, suc, _+_}
 use mathlib.Core.Path.{_≡_}
 use mathlib.Core.Bool.{Bool, true, false}
 use mathlib.Core.List.{List, [], _∷_, _++_, map}
@@ -41,14 +41,18 @@ case g w = record { got = g; want = w }
 
 -- ---- Answers as numbers
 
--- A refusal's number or the length given.
+-- A refusal by its number, told apart from every length and count.
+abbrev stop : ℕ → ℕ
+stop n = 9000000000000000 + n
+
+-- A refusal, or the length given.
 abbrev answer : Answer → ℕ
-answer (Answer.refused n) = n
+answer (Answer.refused n) = stop n
 answer (Answer.accepted n) = n
 
 -- A Loop is 0 and its start, a Point its name and start.
 abbrev cue : CueAnswer → List ℕ
-cue (CueAnswer.refused n) = n ∷ []
+cue (CueAnswer.refused n) = stop n ∷ []
 cue CueAnswer.ended = []
 cue (CueAnswer.loop s) = 0 ∷ s ∷ []
 cue (CueAnswer.point s n) = n ∷ s ∷ []
@@ -75,28 +79,28 @@ channel c =
 
 -- HEAD: rate, channels, blocks, loop start
 abbrev head : Opened → List ℕ
-head (Opened.refused n) = n ∷ []
+head (Opened.refused n) = stop n ∷ []
 head (Opened.opened r) = r .rate ∷ r .count ∷ r .blocks ∷ loopIndex (r .«loop_start») ∷ []
 
 -- Both channels of an opening, and its first three offsets.
 abbrev channels : Opened → List ℕ
-channels (Opened.refused n) = n ∷ []
+channels (Opened.refused n) = stop n ∷ []
 channels (Opened.opened r) = concat channel (r .channels) ++ take 3 (r .offsets)
 
 -- BLCK: offset, length, samples, cues
 abbrev blck : List ℕ → ℕ → List ℕ
-blck s o = on (readHeader s o) (λ n. n ∷ []) (λ h. o ∷ lengthIn h ∷ adpcmSamples (lengthIn h) ∷ h .cues ∷ [])
+blck s o = on (readHeader s o) (λ n. stop n ∷ []) (λ h. o ∷ lengthIn h ∷ adpcmSamples (lengthIn h) ∷ h .cues ∷ [])
 
 -- A block read: rate, format, coefficients, gain, length, context, start, data and position; a refusal's number and position.
 abbrev part : BlockAnswer → List ℕ
-part (BlockAnswer.refused n) = n ∷ []
-part (BlockAnswer.refusedAt n i) = n ∷ i ∷ []
+part (BlockAnswer.refused n) = stop n ∷ []
+part (BlockAnswer.refusedAt n i) = stop n ∷ i ∷ []
 part BlockAnswer.ended = []
 part (BlockAnswer.gave rate f cs g n c start bytes i) = rate ∷ formatNumber f ∷ map (ofZ w16) cs ++ (g ∷ n ∷ context c) ++ (start ∷ bytes) ++ (i ∷ [])
 
 -- The addresses remaining.
 abbrev left : Remaining → ℕ
-left (Remaining.refused n) = n
+left (Remaining.refused n) = stop n
 left (Remaining.addresses n) = n
 
 -- A cue call: its answer, and the block, place and base of the cursor after it.
@@ -170,6 +174,19 @@ pair rate n bs zs =
 abbrev rated : ℕ → Push
 rated n = record { channels = 1; left = record { block = record { rate = n; length = 16; coefficients = replicate 16 (pos 0); gain = 0; context = zeroContext }; bytes = eight }; right = side 0 []; last = false }
 
+-- A context.
+abbrev ctx : ℕ → ℤ → ℤ → FrameContext
+ctx p l o = record { «predictor_and_scale» = p; last = l; oldest = o }
+
+-- A mono push with these coefficients.
+abbrev coded : List ℤ → Push
+coded zs = record { channels = 1; left = record { block = record { rate = 32000; length = 16; coefficients = zs; gain = 0; context = zeroContext }; bytes = eight }; right = side 0 []; last = false }
+
+-- A mono push whose right side is of another rate, length and data.
+abbrev oddRight : Push
+oddRight =
+    record { channels = 1; left = side 16 eight; right = record { block = record { rate = 5; length = 77; coefficients = replicate 16 (negsuc 3); gain = 9; context = ctx 1 (pos 2) (negsuc 5) }; bytes = 1 ∷ 2 ∷ [] }; last = true }
+
 -- A book with one stereo block in a slot of 256 bytes.
 abbrev one : Book
 one = bookRun (begun 256 2 Auto) (Call.push (pair 32000 16 eight (replicate 16 (pos 0))) (replicate 96 9) ∷ [])
@@ -190,10 +207,6 @@ leftSide g c bs = record { block = record { rate = 32000; length = 16; coefficie
 -- The right side.
 abbrev rightSide : (gain : ℕ) → FrameContext → List ℕ → Side
 rightSide g c bs = record { block = record { rate = 32000; length = 16; coefficients = (negsuc 32767 ∷ pos 32767 ∷ pos 256 ∷ negsuc 255 ∷ pos 1000 ∷ negsuc 999 ∷ pos 17 ∷ negsuc 16 ∷ pos 12345 ∷ negsuc 12344 ∷ pos 0 ∷ pos 1 ∷ negsuc 1 ∷ pos 300 ∷ negsuc 299 ∷ pos 255 ∷ []); gain = g; context = c }; bytes = bs }
-
--- A context.
-abbrev ctx : ℕ → ℤ → ℤ → FrameContext
-ctx p l o = record { «predictor_and_scale» = p; last = l; oldest = o }
 
 -- The calls behind the recorded stereo file.
 abbrev recorded : List Call
@@ -262,13 +275,16 @@ table =
     ∷ case (numberDue empty (Call.cue (at 2147483647 Point 1)) ∷ numberDue empty (Call.cue (at 2147483648 Point 1)) ∷ []) (0 ∷ 8 ∷ [])
     -- "Two 16-address blocks: Point 13 in block 0, Point 14 in block 1, Loop 20 read back at 14."; the answers by the book and by the program
     ∷ case (cues (cuesOf (ended two))) (1 ∷ 13 ∷ 0 ∷ 14 ∷ 2 ∷ 14 ∷ [])
-    ∷ case (map answer (bookAnswers empty two)) (0 ∷ 0 ∷ 0 ∷ 0 ∷ 8 ∷ 27 ∷ 0 ∷ 21 ∷ 28 ∷ 0 ∷ 26 ∷ 14 ∷ 320 ∷ 26 ∷ [])
-    ∷ case (map answer (answersOf (begin 4096 1 Auto (0 ∷ []) .writer) two)) (0 ∷ 0 ∷ 0 ∷ 0 ∷ 8 ∷ 27 ∷ 0 ∷ 21 ∷ 28 ∷ 0 ∷ 26 ∷ 14 ∷ 320 ∷ 26 ∷ [])
+    ∷ case (map answer (bookAnswers empty two)) (0 ∷ 0 ∷ 0 ∷ 0 ∷ stop 8 ∷ stop 27 ∷ 0 ∷ stop 21 ∷ stop 28 ∷ 0 ∷ stop 26 ∷ stop 14 ∷ 320 ∷ stop 26 ∷ [])
+    ∷ case (map answer (answersOf (begin 4096 1 Auto (0 ∷ []) .writer) two)) (0 ∷ 0 ∷ 0 ∷ 0 ∷ stop 8 ∷ stop 27 ∷ 0 ∷ stop 21 ∷ stop 28 ∷ 0 ∷ stop 26 ∷ stop 14 ∷ 320 ∷ stop 26 ∷ [])
     -- "Index -1 at base 14 gives 13, at base 0 gives 18,446,744,073,709,551,615."
     ∷ case (cue (pointOf 14 (record { «sample_index» = negsuc 0; id = 1 })) ++ cue (nthCue negative reader (firstCursor reader) 1)) (1 ∷ 13 ∷ 1 ∷ 18446744073709551615 ∷ [])
     -- "Count bytes 0 0 1 0 give 3."; a format of 1 gives 4, a space of 33 gives 2, 191 and 7 bytes give 1
     ∷ case (head (opening (fileWith (0 ∷ 0 ∷ 1 ∷ 0 ∷ []) (0 ∷ 0 ∷ 0 ∷ 5 ∷ []))) ++ head (opening (take 18 file ++ (0 ∷ 1 ∷ []))) ++ head (opening (33 ∷ drop 1 file)) ++ head (opening (take 191 file)) ++ head (opening (take 7 file)))
-    (3 ∷ 4 ∷ 2 ∷ 1 ∷ 1 ∷ [])
+    (stop 3 ∷ stop 4 ∷ stop 2 ∷ stop 1 ∷ stop 1 ∷ [])
+    -- "Both channels' formats are checked, also in mono."; a looping field of 512 is true, and mono's second channel is zero in the record whatever the slot has there
+    ∷ case (head (opening (take 74 file ++ (0 ∷ 1 ∷ []))) ++ head (opening (take 75 file))) (stop 4 ∷ stop 1 ∷ [])
+    ∷ case (channels (opening (take 16 file ++ (2 ∷ 0 ∷ []) ++ take 54 (drop 18 file) ++ (0 ∷ 7 ∷ 0 ∷ 10 ∷ []) ++ replicate 52 9 ++ drop 128 file))) (channels (opening file))
     -- "Cues are ordered by start, kind in that order, range length, name. An equal cue is accepted and adds nothing.": their names
     ∷ case (map (λ c. c .name) (ended mixed .cues)) (6 ∷ 2 ∷ 9 ∷ 3 ∷ 8 ∷ 1 ∷ [])
     -- "20 table holds 128 cues": the 128th passes, the 129th does not, an equal one does
@@ -281,23 +297,28 @@ table =
     (29 ∷ 15 ∷ 12 ∷ 11 ∷ 23 ∷ 24 ∷ [])
     ∷ case (pushed single (rated 32001) 999 ∷ pushed empty (rated 0) 999 ∷ pushed single (mono 1 (7 ∷ []) false) 999 ∷ pushed single (mono 16 eight true) 63 ∷ pushed single (mono 16 eight true) 64 ∷ [])
     (22 ∷ 9 ∷ 10 ∷ 14 ∷ 0 ∷ [])
+    -- 23 in mono, also of negative coefficients; the same ones pass
+    ∷ case (pushed single (coded (replicate 16 (pos 1))) 999 ∷ pushed (ended (Call.push (coded (replicate 16 (negsuc 0))) (replicate 64 9) ∷ [])) (coded (replicate 16 (negsuc 1))) 999
+    ∷ pushed (ended (Call.push (coded (replicate 16 (negsuc 0))) (replicate 64 9) ∷ [])) (coded (replicate 16 (negsuc 0))) 999 ∷ []) (23 ∷ 23 ∷ 0 ∷ [])
     -- "Enabled with no Loop cue ..; it falls past a first block of 0 samples that isn't the last."; "unless Disabled": the loop block's index, the number of blocks for none
     ∷ case (loopBlock (bookRun (begun 4096 1 Enabled) (Call.push (mono 2 (7 ∷ []) false) (replicate 64 9) ∷ block true ∷ [])) ∷ loopBlock (bookRun (begun 4096 1 Disabled) worked) ∷ []) (1 ∷ 1 ∷ [])
     -- "Bytes for n addresses: ADPCM (n+1)/2 rounded down, PCM16 2n, PCM8 n."; "Samples for n addresses: n in PCM"
-    ∷ case (addressToByteUp Adpcm 3 ∷ addressToByteUp Pcm16 3 ∷ addressToByteUp Pcm8 3 ∷ numSamples Pcm16 3 ∷ []) (2 ∷ 6 ∷ 3 ∷ 3 ∷ [])
+    ∷ case (addressToByteUp Adpcm 3 ∷ addressToByteUp Pcm16 3 ∷ addressToByteUp Pcm8 3 ∷ numSamples Pcm16 3 ∷ numSamples Pcm8 17 ∷ numSamples Adpcm 17 ∷ []) (2 ∷ 6 ∷ 3 ∷ 3 ∷ 17 ∷ 14 ∷ [])
     -- "Order: 3, 7, 14."
-    ∷ case (map answer (begin 191 3 Auto [] .answer ∷ begin 191 1 Auto [] .answer ∷ begin 16777217 2 Auto [] .answer ∷ begin 192 2 Auto [] .answer ∷ begin 192 2 Auto (9 ∷ []) .answer ∷ [])) (3 ∷ 7 ∷ 7 ∷ 14 ∷ 0 ∷ [])
+    ∷ case (map answer (begin 191 3 Auto [] .answer ∷ begin 191 1 Auto [] .answer ∷ begin 16777217 2 Auto [] .answer ∷ begin 192 2 Auto [] .answer ∷ begin 192 2 Auto (9 ∷ []) .answer ∷ begin 16777216 2 Auto (9 ∷ []) .answer ∷ [])) (stop 3 ∷ stop 7 ∷ stop 7 ∷ stop 14 ∷ 0 ∷ 0 ∷ [])
     -- the worked example: its bytes, by the book and by the program's writes on a slot of 300 bytes; HEAD, BLCK, LOOP and CUEP
     ∷ case (fileBytes (ended worked)) file
     ∷ case (carry (replicate 300 170) (allWrites (begin 300 1 Auto (9 ∷ [])) worked)) (file ++ replicate 76 170)
+    -- in mono the right side counts for nothing
+    ∷ case (fileBytes (ended (Call.cue (at 0 Loop 1) ∷ Call.cue (at 5 Point 2) ∷ Call.push oddRight (replicate 128 9) ∷ Call.finish (replicate 128 9) ∷ []))) file
     ∷ case (head (opening file) ++ blck file 128) (32000 ∷ 1 ∷ 1 ∷ 0 ∷ 128 ∷ 16 ∷ 14 ∷ 1 ∷ [])
     ∷ case (cues (nthCue file reader (firstCursor reader) 0 ∷ nthCue file reader (firstCursor reader) 1 ∷ nthCue file reader (firstCursor reader) 2 ∷ [])) (0 ∷ 0 ∷ 1 ∷ 5 ∷ [])
     -- its data; "block read's 1 comes with the moved position"; 6; past the last the end
     ∷ case (part (blockRead file reader 0 0)) (32000 ∷ 0 ∷ replicate 16 0 ++ (0 ∷ 16 ∷ 0 ∷ 0 ∷ 0 ∷ 192 ∷ eight) ++ (1 ∷ []))
-    ∷ case (part (blockRead (take 199 file) reader 0 0) ++ part (blockRead file reader 1 0) ++ part (blockRead file reader 0 1)) (1 ∷ 1 ∷ 6 ∷ [])
-    ∷ case (left (dataRemaining file reader 0) ∷ left (dataRemaining file reader 1) ∷ left (dataRemaining (take 191 file) reader 0) ∷ []) (16 ∷ 0 ∷ 1 ∷ [])
+    ∷ case (part (blockRead (take 199 file) reader 0 0) ++ part (blockRead file reader 1 0) ++ part (blockRead file reader 0 1) ++ part (blockRead (take 159 file) reader 0 0)) (stop 1 ∷ 1 ∷ stop 6 ∷ stop 1 ∷ 1 ∷ [])
+    ∷ case (left (dataRemaining file reader 0) ∷ left (dataRemaining file reader 1) ∷ left (dataRemaining (take 191 file) reader 0) ∷ []) (16 ∷ 0 ∷ stop 1 ∷ [])
     -- a refused cue call leaves the cursor: from block 0 past its one cue, the second header leaving the slot; in the whole slot; a call that gives the Loop reads no header
-    ∷ case (stepIn (cueStep (take 255 (fileBytes (ended two))) twoReader (cursor 0 1 0 false))) (1 ∷ 0 ∷ 1 ∷ 0 ∷ [])
+    ∷ case (stepIn (cueStep (take 255 (fileBytes (ended two))) twoReader (cursor 0 1 0 false))) (stop 1 ∷ 0 ∷ 1 ∷ 0 ∷ [])
     ∷ case (stepIn (cueStep (fileBytes (ended two)) twoReader (cursor 0 1 0 false))) (2 ∷ 14 ∷ 1 ∷ 1 ∷ 14 ∷ [])
     ∷ case (stepIn (cueStep (take 255 (fileBytes (ended two))) twoReader (cursor 0 1 0 true))) (0 ∷ 14 ∷ 1 ∷ 0 ∷ 14 ∷ [])
     -- two stereo blocks, from the Rust: the bytes, by the book and by the program's writes; opening, a read of channel 1, the cues
@@ -311,7 +332,7 @@ table =
     ∷ case (head (opening files.pcm8) ++ part (blockRead files.pcm8 (opened (opening files.pcm8) reader) 1 0)) (32000 ∷ 2 ∷ 1 ∷ 512 ∷ 32000 ∷ 10 ∷ 0 ∷ 0 ∷ 0 ∷ 0 ∷ 0 ∷ 0 ∷ 0 ∷ 0 ∷ 0 ∷ 0 ∷ 0 ∷ 0 ∷ 0 ∷ 0 ∷ 0 ∷ 0 ∷ 0 ∷ 17 ∷ 0 ∷ 0 ∷ 0 ∷ 224 ∷ 101 ∷ 102 ∷ 103 ∷ 104 ∷ 105 ∷ 106 ∷ 107 ∷ 108 ∷ 109 ∷ 110 ∷ 111 ∷ 112 ∷ 113 ∷ 114 ∷ 115 ∷ 116 ∷ 117 ∷ 118 ∷ 119 ∷ 120 ∷ 121 ∷ 122 ∷ 123 ∷ 124 ∷ 125 ∷ 126 ∷ 127 ∷ 128 ∷ 129 ∷ 130 ∷ 131 ∷ 132 ∷ 133 ∷ 134 ∷ 1 ∷ [])
     -- the estimate: "128 + Σ(32 + channels × P(bytes)) + 32p"; "Order: 3, 5, then per length 10, 13."; 512 and 513 lengths, p = 4,294,967,295
     ∷ case (map answer (estimateOf 1 (16 ∷ []) 1 ∷ estimateOf 2 (16 ∷ 17 ∷ []) 3 ∷ estimateOf 1 [] 4294967295 ∷ estimateOf 1 (replicate 512 131072) 0 ∷ [])) (224 ∷ 416 ∷ 137438953568 ∷ 33570944 ∷ [])
-    ∷ case (map answer (estimateOf 3 (replicate 513 0) 0 ∷ estimateOf 1 (replicate 513 0) 0 ∷ estimateOf 1 (131073 ∷ 1 ∷ []) 0 ∷ estimateOf 2 (1 ∷ 65537 ∷ []) 0 ∷ estimateOf 2 (65537 ∷ []) 0 ∷ estimateOf 1 (131072 ∷ []) 0 ∷ [])) (3 ∷ 5 ∷ 13 ∷ 10 ∷ 13 ∷ 65696 ∷ [])
+    ∷ case (map answer (estimateOf 3 (replicate 513 0) 0 ∷ estimateOf 1 (replicate 513 0) 0 ∷ estimateOf 1 (131073 ∷ 1 ∷ []) 0 ∷ estimateOf 2 (1 ∷ 65537 ∷ []) 0 ∷ estimateOf 2 (65537 ∷ []) 0 ∷ estimateOf 1 (131072 ∷ []) 0 ∷ estimateOf 2 (65536 ∷ []) 0 ∷ [])) (stop 3 ∷ stop 5 ∷ stop 13 ∷ stop 10 ∷ stop 13 ∷ 65696 ∷ 65696 ∷ [])
     ∷ []
 
 -- Every case gives what document 01 says.

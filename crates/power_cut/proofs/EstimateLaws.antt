@@ -12,7 +12,7 @@ use Rattle.layout.specs.Records.{P, sizeOf, adpcmBytes}
 use Rattle.layout.specs.Refusals.{firstDue, wrongCount}
 use Rattle.writer.specs.Loading.{accepted, lengthOf, points, dataOf}
 use Rattle.writer.specs.Estimate.{lengthsDue, estimateRefusal, estimated, estimateOf}
-use Rattle.power_cut.specs.LoadingBook.{Block, Book, endOf, nextOffset}
+use Rattle.power_cut.specs.LoadingBook.{Block, Book, endOf, endOfBlocks}
 use Rattle.power_cut.specs.PowerCut.{estimates}
 use Rattle.power_cut.proofs.Kept.{namedBy, BlockOk, Chained, Kept}
 use Rattle.power_cut.proofs.ListLaws.{endFrom, next-end}
@@ -60,7 +60,7 @@ chain-most c Chained.none = omega arith
 chain-most w (Chained.more {k = k} e f ok c) = omega (arith, block-most k w ok, chain-most w c)
 
 pub estimate-bound : (b : Book) (ch : ℕ) → b .channels ≡ ch → Kept b
-    → (n : ℕ) × (estimates ch (lengths (b .blocks)) (points (b .cues)) ≡ accepted n) × (nextOffset (b .blocks) ≤ n)
+    → (n : ℕ) × (estimates ch (lengths (b .blocks)) (points (b .cues)) ≡ accepted n) × (endOfBlocks (b .blocks) ≤ n)
 unfolding estimateOf estimated
 estimate-bound b ch e h =
     let c = chain-most (h .channels) (h .chained) in

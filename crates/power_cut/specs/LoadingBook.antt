@@ -53,10 +53,10 @@ abbrev pub endOf : Block → ℕ
 endOf k = k .offset + blockSize (k .cues) (k .push)
 
 -- "its offset, 128 or the former's end"; "the last block's end as the finished length"
-unfoldable pub nextOffset : List Block → ℕ
-nextOffset [] = firstBlockOffset
-nextOffset (k ∷ []) = endOf k
-nextOffset (k ∷ l ∷ ks) = nextOffset (l ∷ ks)
+unfoldable pub endOfBlocks : List Block → ℕ
+endOfBlocks [] = firstBlockOffset
+endOfBlocks (k ∷ []) = endOf k
+endOfBlocks (k ∷ l ∷ ks) = endOfBlocks (l ∷ ks)
 
 -- "26 push after the last block": has a push had the mark?
 unfoldable pub lastPushed : List Block → Bool
@@ -91,7 +91,7 @@ takes b p =
 
 -- The block that a push enters.
 unfoldable pub enters : Book → Push → Block
-enters b p = record { push = p; offset = nextOffset (b .blocks); base = baseOf (b .blocks); cues = takes b p }
+enters b p = record { push = p; offset = endOfBlocks (b .blocks); base = baseOf (b .blocks); cues = takes b p }
 
 -- "A push enters its block"
 abbrev pub withPush : Book → Push → Book
@@ -106,7 +106,7 @@ withFinish b =
 -- What push's order asks of the book.
 abbrev pub standing : Book → Standing
 standing b =
-    record { slotLength = b .slotLength; channels = b .channels; blocks = length (b .blocks); last = lastPushed (b .blocks); offset = nextOffset (b .blocks); left = firstLeft (b .blocks); right = firstRight (b .blocks) }
+    record { slotLength = b .slotLength; channels = b .channels; blocks = length (b .blocks); last = lastPushed (b .blocks); offset = endOfBlocks (b .blocks); left = firstLeft (b .blocks); right = firstRight (b .blocks) }
 
 -- "A call gets the first number due in its order by its arguments and what the book keeps"
 abbrev pub numberDue : Book → Call → ℕ
@@ -124,7 +124,7 @@ bookNext b (Call.finish lent) = withFinish b
 abbrev pub lengthGiven : Book → Call → ℕ
 lengthGiven b (Call.cue c) = 0
 lengthGiven b (Call.push p lent) = 0
-lengthGiven b (Call.finish lent) = nextOffset (b .blocks)
+lengthGiven b (Call.finish lent) = endOfBlocks (b .blocks)
 
 -- "with none due, or an equal cue met first, it is accepted"
 abbrev pub bookAnswer : Book → Call → Answer

@@ -38,12 +38,12 @@ writesIn (p ∷ ps) buf = write (p .offset) (take (p .length) buf) ∷ writesIn 
 abbrev pub carried : List ℕ → Write → List ℕ
 carried s w = put s (w .offset) (w .bytes)
 
--- `Left s ws n t`: the server carries the writes ws out on the slot s, "in order"; the power fails; n of them have taken, and the slot is t.
+-- `CutLeaves s ws n t`: the server carries the writes ws out on the slot s, "in order"; the power fails; n of them have taken, and the slot is t.
 -- "A cut point is any write of the list .. or the end after the last"; "writes before the cut point have taken, later ones haven't, and the one under
 -- way has left any values in its own range; a write of one byte leaves the old or the new byte and has taken if it left the new one".
-pub data Left : (s : List ℕ) (ws : List Write) (n : ℕ) (t : List ℕ) → Type 0 where
-  ended : {s : List ℕ} → Left s [] 0 s
-  torn : {s : List ℕ} {w : Write} {ws : List Write} (g : List ℕ) → Bytes g → length g ≡ length (w .bytes) → (length g ≡ 1 → ⊥) → Left s (w ∷ ws) 0 (put s (w .offset) g)
-  old : {s : List ℕ} {w : Write} {ws : List Write} → length (w .bytes) ≡ 1 → Left s (w ∷ ws) 0 s
-  new : {s : List ℕ} {w : Write} {ws : List Write} → length (w .bytes) ≡ 1 → Left s (w ∷ ws) 1 (carried s w)
-  took : {s t : List ℕ} {w : Write} {ws : List Write} {n : ℕ} → Left (carried s w) ws n t → Left s (w ∷ ws) (suc n) t
+pub data CutLeaves : (s : List ℕ) (ws : List Write) (n : ℕ) (t : List ℕ) → Type 0 where
+  ended : {s : List ℕ} → CutLeaves s [] 0 s
+  torn : {s : List ℕ} {w : Write} {ws : List Write} (g : List ℕ) → Bytes g → length g ≡ length (w .bytes) → (length g ≡ 1 → ⊥) → CutLeaves s (w ∷ ws) 0 (put s (w .offset) g)
+  old : {s : List ℕ} {w : Write} {ws : List Write} → length (w .bytes) ≡ 1 → CutLeaves s (w ∷ ws) 0 s
+  new : {s : List ℕ} {w : Write} {ws : List Write} → length (w .bytes) ≡ 1 → CutLeaves s (w ∷ ws) 1 (carried s w)
+  took : {s t : List ℕ} {w : Write} {ws : List Write} {n : ℕ} → CutLeaves (carried s w) ws n t → CutLeaves s (w ∷ ws) (suc n) t

@@ -1,0 +1,28 @@
+use mathlib.Core.Path.{ap, _∙_}
+use mir.Syntax.{w32}
+use mir.Val.{toZ}
+use mir.Facts.{toZ-ofZ}
+use Rattle.layout.proofs.FieldLaws.{answer-in, answer-out, passed, failed}
+use borrow.Author.Needs.{needs}
+use Rattle.layout.proofs.fields.read_i32.Statement.{statement}
+use Rattle.layout.proofs.fields.read_i32.Tie as tie
+
+inside-requires : tie.Need-inside-requires
+inside-requires c κs = search needs
+
+be32-requires : tie.Need-be32-requires
+be32-requires c κs = passed (c .before .inside .ensures) (c .if1 .taken)
+
+signed32-requires : tie.Need-signed32-requires
+signed32-requires c κs = search needs
+
+returns : tie.Need-returns
+returns c = answer-in _ _ _ _ _ (passed (c .before .before .before .inside .ensures) (c .before .before .if1 .taken))
+    (toZ-ofZ (record { sfits = c .signed32 .ok }) ∙ c .signed32 .ensures ∙ ap (toZ w32) (c .before .be32 .ensures))
+
+returns-2 : tie.Need-returns-2
+returns-2 c = answer-out _ _ _ _ _ (failed (c .before .inside .ensures) (c .if1 .left))
+
+pub read-i32-spec : {M : Type 1} → statement M
+read-i32-spec =
+    tie.close (tie.spec inside-requires be32-requires signed32-requires returns returns-2)

@@ -1,0 +1,2 @@
+pub mod NextCueLaws
+pub mod SignLaws

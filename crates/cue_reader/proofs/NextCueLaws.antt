@@ -1,0 +1,82 @@
+-- The loop of the cue call: its invariant, and what each way out of it answers.
+use Prim.Native.Nat.{ℕ, _+_, _*_, _%_, _^_, _≤_, _<_}
+use mathlib.Core.Path.{_≡_, refl, sym, ap, _∙_}
+use mathlib.Core.Bool.{Bool, true, false}
+use mathlib.Core.List.{List, _∷_}
+use native.Mathlib.Omega.{arith}
+use lib.ListN.{length}
+use mir.Syntax.{w64}
+use mir.Val.{ofZ}
+use Rattle.layout.specs.Choice.{_and_}
+use Rattle.layout.specs.Records.{P, Read, field, readHeader, cueAt, lengthIn, numSamples}
+use Rattle.layout.specs.declared.BlockHeader.{BlockHeader}
+use Rattle.layout.specs.declared.CuePoint.{CuePoint}
+use Rattle.layout.specs.declared.Channel.{Channel}
+use Rattle.layout.proofs.FieldLaws.{Got, field-inside}
+use Rattle.reader.specs.declared.HpsReader.{HpsReader}
+use Rattle.reader.specs.declared.CueIterator.{CueIterator}
+use Rattle.cue_reader.specs.declared.CueReply.{CueReply}
+use Rattle.cue_reader.specs.declared.CueCall.{CueCall}
+use Rattle.reader.specs.OpeningAndReading.{Readable, channelIn, offsetIn, offsetsFrom}
+use Rattle.reader.specs.CuesReadBack.{CueAnswer, cursor, CueStep, stepped, loopHere, pointOf, baseAfter, cueFrom, cueStep}
+use Rattle.cue_reader.specs.CueAnswers.{cueReply, cueCalled, cueCall, pointRead}
+use Rattle.reader.proofs.HeaderLaws.{header-inside, P-above}
+use Rattle.reader.proofs.RecordLaws.{Shaped, offsets-none, offsets-more}
+use Rattle.reader.proofs.CueLaws.{step-is, at-loop, at-point, at-next}
+
+-- a point that was read
+pub point-read : (s : List ℕ) (at base start : ℕ) (p : CuePoint) → Got s (at + 8) (cueAt s at) p → start ≡ (base + ofZ w64 (p .«sample_index»)) % 2 ^ 64
+    → CueReply.Point start (p .id) ≡ pointRead base (field s (at + 8) (cueAt s at))
+point-read s at base start p g e = rw (g .read) (rw e)
+
+-- what is left from here on is the whole
+pub record Stepping (s : List ℕ) (r : HpsReader) (c : CueIterator) (block place base : ℕ) : Type 0 where
+  pub same : cueStep s r c ≡ cueFrom s r c (offsetsFrom r block) block place base (c .due)
+
+pub stepping-none : (s : List ℕ) (r : HpsReader) (c : CueIterator) → Stepping s r c (c .block) (c .place) (c .base)
+stepping-none s r c = record { same = step-is s r c }
+
+-- a block whose header was read, and where no Loop is due
+pub record Here (s : List ℕ) (r : HpsReader) (c : CueIterator) (block place base : ℕ) (h : BlockHeader) : Type 0 where
+  pub same : cueStep s r c ≡ cueFrom s r c (offsetIn r block ∷ offsetsFrom r (block + 1)) block place base (c .due)
+  pub loop : c .due and loopHere (r .«loop_start») block ≡ false
+  pub header : readHeader s (offsetIn r block) ≡ Read.value h
+
+module _ (s : List ℕ) (r : HpsReader) (c : CueIterator) (block place base : ℕ) (w : Stepping s r c block place base) where
+  pub step-end : r .blocks ≤ block → {x : CueCall} → x ≡ cueCalled CueReply.End (cursor block place base (c .due)) → x ≡ cueCall (cueStep s r c)
+  unfolding cueFrom
+  step-end h g = g ∙ sym (ap cueCall (w .same ∙ ap (λ (os : List ℕ). cueFrom s r c os block place base (c .due)) (offsets-none r block h)))
+
+  module _ (shape : Shaped r) (ok : Readable r) (l : block < r .blocks) where
+    more : cueStep s r c ≡ cueFrom s r c (offsetIn r block ∷ offsetsFrom r (block + 1)) block place base (c .due)
+    more = w .same ∙ ap (λ (os : List ℕ). cueFrom s r c os block place base (c .due)) (offsets-more r block shape ok l)
+
+    pub step-loop : c .due and loopHere (r .«loop_start») block ≡ true → {x : CueCall} → x ≡ cueCalled (CueReply.Loop base) (cursor block place base false) → x ≡ cueCall (cueStep s r c)
+    step-loop e g = g ∙ sym (ap cueCall (more ∙ at-loop s r c (offsetIn r block) (offsetsFrom r (block + 1)) block place base (c .due) e))
+
+    module _ (e : c .due and loopHere (r .«loop_start») block ≡ false) where
+      short : readHeader s (offsetIn r block) ≡ Read.refused 1 → cueFrom s r c (offsetIn r block ∷ offsetsFrom r (block + 1)) block place base (c .due) ≡ stepped (CueAnswer.refused 1) c
+      unfolding cueFrom
+      short q = rw e (rw q)
+
+      pub step-short : readHeader s (offsetIn r block) ≡ Read.refused 1 → cueCalled (CueReply.Refused 1) c ≡ cueCall (cueStep s r c)
+      step-short q = sym (ap cueCall (more ∙ short q))
+
+      pub step-here : (h : BlockHeader) → readHeader s (offsetIn r block) ≡ Read.value h → Here s r c block place base h
+      step-here h q = record { same = more; loop = e; header = q }
+
+module _ (s : List ℕ) (r : HpsReader) (c : CueIterator) (block place base : ℕ) (h : BlockHeader) (w : Here s r c block place base h) where
+  pub cue-inside : place < h .cues → offsetIn r block + 32 + 8 * place + 8 ≤ length s
+  cue-inside k = omega (arith, header-inside s (offsetIn r block) (w .header), P-above (8 * h .cues))
+
+  pub step-point : place < h .cues → {x : CueReply} → x ≡ pointRead base (field s (offsetIn r block + 32 + 8 * place + 8) (cueAt s (offsetIn r block + 32 + 8 * place)))
+      → {y : CueCall} → y ≡ cueCalled x (cursor block (place + 1) base (c .due)) → y ≡ cueCall (cueStep s r c)
+  step-point k {x} t g =
+      let at = offsetIn r block + 32 + 8 * place in
+      let u : x ≡ cueReply (pointOf base (cueAt s at)) = t ∙ ap (pointRead base) (field-inside s (at + 8) (cueAt s at) (cue-inside k)) in
+      g ∙ rw u (sym (ap cueCall (w .same ∙ at-point s r c (offsetIn r block) (offsetsFrom r (block + 1)) block place base (c .due) (w .loop) h (w .header) k)))
+
+  pub step-next : h .cues ≤ place → (x : Channel) → channelIn r 0 ≡ x → (b : ℕ) → b ≡ (base + numSamples (x .format) (lengthIn h)) % 2 ^ 64 → Stepping s r c (block + 1) 0 b
+  step-next k x ex b t =
+      let u : b ≡ baseAfter r base (lengthIn h) = t ∙ ap (λ (x : Channel). (base + numSamples (x .format) (lengthIn h)) % 2 ^ 64) (sym ex) in
+      rw u (record { same = w .same ∙ at-next s r c (offsetIn r block) (offsetsFrom r (block + 1)) block place base (c .due) (w .loop) h (w .header) k })

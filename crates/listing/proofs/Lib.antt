@@ -1,0 +1,4 @@
+pub mod ColumnLaws
+pub mod ListingLaws
+pub mod LineLaws
+pub mod StartLaws

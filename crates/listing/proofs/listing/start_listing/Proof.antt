@@ -1,0 +1,46 @@
+use denote.Ref.{now}
+use borrow.Author.Needs.{needs}
+use Rattle.listing.proofs.ListingLaws.{start-long, start-refused, start-opened}
+use Rattle.listing.proofs.StartLaws.{call-readable, call-refused, call-opened}
+use Rattle.listing.proofs.listing.start_listing.Statement.{statement}
+use Rattle.listing.proofs.listing.start_listing.Tie as tie
+use Rattle.listing.proofs.listing.start_listing.Reads as reads
+use Rattle.listing.proofs.listing.start_listing.Lts as lts
+use Rattle.reader.proofs.opening.open.Reads as open-reads
+
+-- src/listing.rt:48:9
+open-requires : tie.Need-open-requires
+open-requires c κs = search needs
+
+-- src/listing.rt:53:9
+returns : tie.Need-returns
+returns c =
+    let a = c .before .before .before .before .args in
+    let e = c .before .before .«open» .ensures in
+    (start-long (now (a .s)) _ (c .if1 .taken), call-readable (now (a .s)) _ e)
+
+-- src/listing.rt:56:28
+enum-known-reply : tie.Need-enum-known-reply
+enum-known-reply c = search needs
+
+-- src/listing.rt:61:17
+enum-told : tie.Need-enum-told
+enum-told c = search needs
+
+-- src/listing.rt:44:1
+returns-2 : tie.Need-returns-2
+returns-2 c =
+    let a = c .before .before .before .before .before .before .before .args in
+    let e = c .before .before .before .before .before .«open» .ensures in
+    (start-refused (now (a .s)) _ (c .before .before .before .if1 .left) _ (call-refused (now (a .s)) _ e _ (c .before .reply .given .1)), call-readable (now (a .s)) _ e)
+
+-- src/listing.rt:44:1
+returns-3 : tie.Need-returns-3
+returns-3 c =
+    let a = c .before .before .before .before .before .before .args in
+    let e = c .before .before .before .before .«open» .ensures in
+    (start-opened (now (a .s)) _ (c .before .before .if1 .left) (call-opened (now (a .s)) _ e (c .enum-told .given .1)), call-readable (now (a .s)) _ e)
+
+pub start-listing-spec : {M : Type 1} → statement M
+start-listing-spec =
+    tie.close (tie.spec open-requires returns enum-known-reply enum-told returns-2 returns-3)

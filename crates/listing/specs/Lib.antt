@@ -1,0 +1,2 @@
+pub mod MarkingKey
+pub mod Filling

@@ -1,0 +1,107 @@
+-- Marking key (document 01, "Marking key and estimate"): the listing of a slot, as the bytes that `key` prints.
+use Prim.Native.Nat.{ℕ, zero, suc, _+_, _/_, _%_}
+use mathlib.Core.List.{List, [], _∷_, _++_}
+use lib.ListN.{length, drop, replicate}
+use lib.Dec.{ltb}
+use Rattle.layout.specs.Choice.{pick}
+use Rattle.layout.specs.Records.{on, readHeader, lengthIn, numSamples}
+use Rattle.layout.specs.declared.DspFormat.{DspFormat}
+use Rattle.reader.specs.OpeningAndReading.{Opened, refused, opened, opening, channelIn, offsetsFrom}
+use Rattle.reader.specs.CuesReadBack.{CueAnswer, firstCursor, CueStep, cueStep}
+use Rattle.reader.specs.declared.LoopStart.{LoopStart}
+use Rattle.reader.specs.declared.LoopStart.the-variants.{None, Block}
+use Rattle.reader.specs.declared.HpsReader.{HpsReader}
+use Rattle.reader.specs.declared.CueIterator.{CueIterator}
+use Rattle.listing.specs.declared.Stage.{Stage}
+
+-- "reads a slot of at most 65,536 bytes from standard input, else 7"
+abbrev pub keyLimit : ℕ
+keyLimit = 65536
+
+-- ---- Columns and lines
+
+-- "right-justified decimals": the last digit, before it the other digits, or blanks where there are none
+unfoldable pub column : (width n : ℕ) → List ℕ
+column zero n = []
+column (suc w) n = pick (ltb n 10) (replicate w 32) (column w (n / 10)) ++ ((48 + n % 10) ∷ [])
+
+-- "It prints a four-letter word and right-justified decimals .. Each line ends with one newline."
+abbrev pub line : (word fields : List ℕ) → List ℕ
+line w fs = w ++ fs ++ (10 ∷ [])
+
+-- "Refused: STOP and the number alone."
+unfoldable pub stopLine : ℕ → List ℕ
+stopLine n = line (83 ∷ 84 ∷ 79 ∷ 80 ∷ []) (column 11 n)
+
+-- "Loop start in HEAD is the block's index, or `-` in the last of its 11 columns."
+abbrev pub loopColumn : LoopStart → List ℕ
+loopColumn None = replicate 10 32 ++ (45 ∷ [])
+loopColumn (Block i) = column 11 i
+
+-- "HEAD rate, channels, blocks, loop start or `-`"
+unfoldable pub headLine : HpsReader → List ℕ
+headLine r =
+    line (72 ∷ 69 ∷ 65 ∷ 68 ∷ []) (column 11 (r .rate) ++ column 11 (r .count) ++ column 11 (r .blocks) ++ loopColumn (r .«loop_start»))
+
+-- "BLCK index, offset, length, samples, cues": samples in channel 0's format, cues the header's count
+unfoldable pub blockLine : DspFormat → (index offset length cues : ℕ) → List ℕ
+blockLine f i o n cues =
+    line (66 ∷ 76 ∷ 67 ∷ 75 ∷ []) (column 11 i ++ column 11 o ++ column 11 n ++ column 11 (numSamples f n) ++ column 11 cues)
+
+-- "LOOP start": "a cue start 21"
+unfoldable pub loopLine : (start : ℕ) → List ℕ
+loopLine s = line (76 ∷ 79 ∷ 79 ∷ 80 ∷ []) (column 21 s)
+
+-- "CUEP start, id"
+unfoldable pub cueLine : (start id : ℕ) → List ℕ
+cueLine s n = line (67 ∷ 85 ∷ 69 ∷ 80 ∷ []) (column 21 s ++ column 11 n)
+
+-- ---- The listing
+
+-- A cue call's line and what follows it; nothing follows the end.
+abbrev pub onCue : CueAnswer → (rest : List ℕ) → List ℕ
+onCue (CueAnswer.refused n) rest = []
+onCue CueAnswer.ended rest = []
+onCue (CueAnswer.loop s) rest = loopLine s ++ rest
+onCue (CueAnswer.point s n) rest = cueLine s n ++ rest
+
+-- "then cues in reading order": those of n cue calls from a cursor on
+unfoldable pub cueLines : (n : ℕ) → List ℕ → HpsReader → CueIterator → List ℕ
+cueLines zero s r c = []
+cueLines (suc n) s r c = onCue (cueStep s r c .answer) (cueLines n s r (cueStep s r c .after))
+
+-- As many cue calls as an opened slot can need: 512 blocks of 255 cues, the Loop and the end.
+abbrev pub cueCalls : ℕ
+cueCalls = 130562
+
+-- "then cues": from the first cursor on
+abbrev pub allCues : List ℕ → HpsReader → List ℕ
+allCues s r = cueLines cueCalls s r (firstCursor r)
+
+-- "All BLCK lines come first": of these offsets, from index i on, then the cues
+unfoldable pub blockLines : List ℕ → HpsReader → (i : ℕ) → (offsets : List ℕ) → List ℕ
+blockLines s r i [] = allCues s r
+blockLines s r i (o ∷ os) = on (readHeader s o) (λ n. []) (λ h. blockLine (channelIn r 0 .format) i o (lengthIn h) (h .cues) ++ blockLines s r (i + 1) os)
+
+-- The listing of an opened slot.
+unfoldable pub wholeListing : List ℕ → HpsReader → List ℕ
+wholeListing s r = headLine r ++ blockLines s r 0 (offsetsFrom r 0)
+
+-- What an opening lists.
+abbrev pub onOpened : List ℕ → Opened → List ℕ
+onOpened s (refused n) = stopLine n
+onOpened s (opened r) = wholeListing s r
+
+-- "Program `key` reads a slot of at most 65,536 bytes from standard input, else 7."
+unfoldable pub listing : List ℕ → List ℕ
+listing s = pick (ltb keyLimit (length s)) (stopLine 7) (onOpened s (opening s))
+
+-- ---- The listing from a stage on
+
+-- What is still to be printed.
+unfoldable pub listingFrom : List ℕ → HpsReader → Stage → List ℕ
+listingFrom s r (Stage.Stop n) = stopLine n
+listingFrom s r Stage.Head = wholeListing s r
+listingFrom s r (Stage.Blocks i) = blockLines s r i (offsetsFrom r i)
+listingFrom s r (Stage.Cues n c) = cueLines n s r c
+listingFrom s r Stage.Done = []

@@ -1,0 +1,178 @@
+// The listing, line by line, and as much of it as a lent buffer holds.
+use crate::Stage;
+use crate::lines::put_block;
+use crate::lines::put_cue;
+use crate::lines::put_head;
+use crate::lines::put_loop;
+use crate::lines::put_stop;
+use cue_reader::CueReply;
+use cue_reader::first_cursor;
+use cue_reader::next_cue;
+use layout::block::HeaderRead;
+use layout::block::read_header;
+use reader::CueIterator;
+use reader::HpsReader;
+use reader::opening::OpenReply;
+use reader::opening::open;
+ghost use mathlib.Core.Path.{_≡_};
+ghost use Prim.Native.Nat.{_+_, _≤_, _<_};
+ghost use lib.ListN.{length};
+ghost use Rattle.reader.specs.OpeningAndReading.{Readable};
+ghost use Rattle.listing.specs.MarkingKey.{listing, listingFrom};
+ghost use Rattle.listing.specs.Filling.{LineIs, FilledIs};
+
+// The longest slot that is listed.
+pub const KEY_LIMIT: usize = 65536;
+
+// As many cue calls as an opened slot can need: 512 blocks of 255 cues, the Loop and the end.
+const CUE_CALLS: usize = 130562;
+
+// The longest line, a block's.
+const LONGEST: usize = 60;
+
+pub struct Listing {
+    pub stage: Stage,
+    pub reader: HpsReader,
+}
+
+// A line that was put, and what comes after it; no line where the listing is done.
+pub struct Line {
+    pub length: usize,
+    pub stage: Stage,
+}
+
+pub fn start_listing(s: &[u8]) -> Listing
+    ensures { λ q. ⌜ listingFrom (now (s .entry)) (q .reader) (q .stage) ≡ listing (now (s .entry)) ⌝ }
+    ensures { λ q. ⌜ Readable (q .reader) ⌝ }
+{
+    let call = open(s);
+    let reader = call.reader;
+    let reply = call.reply;
+    if s.len() > KEY_LIMIT {
+        let stage = Stage::Stop(7);
+        return Listing { stage, reader };
+    }
+    match reply {
+        OpenReply::Refused(number) => {
+            let stage = Stage::Stop(number);
+            Listing { stage, reader }
+        }
+        OpenReply::Opened => {
+            let stage = Stage::Head;
+            Listing { stage, reader }
+        }
+    }
+}
+
+fn done() -> Line
+    ensures { λ q. ⌜ q ≡ record { length = 0; stage = Stage.Done } ⌝ }
+{
+    Line {
+        length: 0,
+        stage: Stage::Done,
+    }
+}
+
+ghost use Rattle.listing.specs.declared.Stage.{Stage};
+
+// The line of block i.
+fn block_line(s: &[u8], r: HpsReader, i: usize, out: &mut [u8], at: usize) -> Line
+    requires { ⌜ (Readable r × (i < r .blocks)) × (at + 60 ≤ length (now out)) ⌝ }
+    ensures { λ q. ⌜ LineIs (now (s .entry)) r (Stage.Blocks i) (now (out .entry)) at (now (out .exit)) q ⌝ }
+{
+    let offset = r.offsets[i];
+    let HeaderRead::Value(header) = read_header(s, offset) else {
+        return done();
+    };
+    let left = r.channels[0];
+    let format = left.format;
+    put_block(out, at, format, i, offset, header);
+    Line {
+        length: 60,
+        stage: Stage::Blocks(i + 1),
+    }
+}
+
+// The line of the next cue, where so many calls may still be made.
+fn cue_line(s: &[u8], r: HpsReader, calls: usize, c: CueIterator, out: &mut [u8], at: usize) -> Line
+    requires { ⌜ Readable r × (at + 60 ≤ length (now out)) ⌝ }
+    ensures { λ q. ⌜ LineIs (now (s .entry)) r (Stage.Cues calls c) (now (out .entry)) at (now (out .exit)) q ⌝ }
+{
+    if calls == 0 {
+        return done();
+    }
+    let call = next_cue(s, r, c);
+    let reply = call.reply;
+    let cursor = call.cursor;
+    match reply {
+        CueReply::Refused(_) => done(),
+        CueReply::End => done(),
+        CueReply::Loop(start) => {
+            put_loop(out, at, start);
+            Line {
+                length: 26,
+                stage: Stage::Cues(calls - 1, cursor),
+            }
+        }
+        CueReply::Point(start, id) => {
+            put_cue(out, at, start, id);
+            Line {
+                length: 37,
+                stage: Stage::Cues(calls - 1, cursor),
+            }
+        }
+    }
+}
+
+fn put_line(s: &[u8], r: HpsReader, stage: Stage, out: &mut [u8], at: usize) -> Line
+    requires { ⌜ Readable r × (at + 60 ≤ length (now out)) ⌝ }
+    ensures { λ q. ⌜ LineIs (now (s .entry)) r stage (now (out .entry)) at (now (out .exit)) q ⌝ }
+{
+    match stage {
+        Stage::Stop(number) => {
+            put_stop(out, at, number);
+            Line {
+                length: 16,
+                stage: Stage::Done,
+            }
+        }
+        Stage::Head => {
+            put_head(out, at, r);
+            Line {
+                length: 49,
+                stage: Stage::Blocks(0),
+            }
+        }
+        Stage::Blocks(i) => {
+            if i < r.blocks {
+                block_line(s, r, i, out, at)
+            } else {
+                let c = first_cursor(r);
+                cue_line(s, r, CUE_CALLS, c, out, at)
+            }
+        }
+        Stage::Cues(calls, c) => cue_line(s, r, calls, c, out, at),
+        Stage::Done => done(),
+    }
+}
+
+// As many whole lines as fit, from the buffer's start, and the stage after them. A buffer of 60 bytes or more takes a line at least, if one is left.
+pub fn fill(s: &[u8], r: HpsReader, from: Stage, out: &mut [u8]) -> Line
+    requires { ⌜ Readable r ⌝ }
+    ensures { λ q. ⌜ FilledIs (now (s .entry)) r from (now (out .entry)) (now (out .exit)) q ⌝ }
+{
+    let mut stage = from;
+    let mut at: usize = 0;
+    while LONGEST <= out.len() - at {
+        let line = put_line(s, r, stage, out, at);
+        if line.length == 0 {
+            return Line {
+                length: at,
+                stage: Stage::Done,
+            };
+        }
+        at += line.length;
+        stage = line.stage;
+    }
+    Line { length: at, stage }
+}

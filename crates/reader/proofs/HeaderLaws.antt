@@ -1,0 +1,49 @@
+-- A block header that was read, or is not in the slot.
+use Prim.Native.Nat.{ℕ, _+_, _*_, _≤_}
+use mathlib.Core.Path.{_≡_, ap}
+use mathlib.Core.List.{List}
+use native.Mathlib.Omega.{arith}
+use lib.ListN.{length, getD}
+use lib.Dec.{leb}
+use borrow.Author.Tests.{leb-true, leb-false}
+use Rattle.layout.specs.Records.{P, Read, headerAt, readHeader}
+use Rattle.layout.specs.Answers.{headerRead}
+use Rattle.layout.specs.declared.BlockHeader.{BlockHeader}
+use Rattle.layout.specs.declared.block.HeaderRead.{HeaderRead}
+use Rattle.layout.proofs.Cases.{by-cases}
+use Rattle.layout.proofs.FieldLaws.{field-inside, field-past, field-value, value-read, short}
+use Rattle.layout.proofs.ReadLaws.{header}
+
+module _ (s : List ℕ) (o : ℕ) {q : HeaderRead} (e : q ≡ headerRead (readHeader s o)) where
+  pub header-got : {h : BlockHeader} → q ≡ HeaderRead.Value h → readHeader s o ≡ Read.value h
+  header-got f = value-read header (readHeader s o) e f
+
+  pub header-short : q ≡ HeaderRead.Short → readHeader s o ≡ Read.refused 1
+  unfolding readHeader
+  header-short f = short header {s = s} {a = headerAt s o} e f .is
+
+-- it is the one at the offset
+pub header-is : (s : List ℕ) (o : ℕ) {h : BlockHeader} → readHeader s o ≡ Read.value h → h ≡ headerAt s o
+unfolding readHeader
+header-is s o {h} e = field-value s (o + (32 + P (8 * getD s (o + 28) 0))) (headerAt s o) h e .is
+
+pub P-above : (n : ℕ) → n ≤ P n
+unfolding P
+P-above n = omega arith
+
+-- it lies in the slot with its filled cues
+pub header-inside : (s : List ℕ) (o : ℕ) {h : BlockHeader} → readHeader s o ≡ Read.value h → o + (32 + P (8 * h .cues)) ≤ length s
+unfolding readHeader headerAt
+header-inside s o {h} e =
+    let g = field-value s (o + (32 + P (8 * getD s (o + 28) 0))) (headerAt s o) h e in
+    let c : h .cues ≡ getD s (o + 28) 0 = ap (λ (x : BlockHeader). x .cues) (g .is) in
+    rw c (g .inside)
+
+-- the one or the other
+pub header-cases : {A : Type 0} (s : List ℕ) (o : ℕ) → (readHeader s o ≡ Read.refused 1 → A) → ((h : BlockHeader) → readHeader s o ≡ Read.value h → A) → A
+unfolding readHeader
+header-cases s o f g =
+    let past = o + (32 + P (8 * getD s (o + 28) 0)) in
+    by-cases (leb past (length s))
+    (λ t. g (headerAt s o) (field-inside s past (headerAt s o) (leb-true past (length s) t)))
+    (λ t. f (field-past s past (headerAt s o) (leb-false past (length s) t)))

@@ -1,0 +1,32 @@
+-- The opening record: what its type gives, two channels and 512 offsets, and its offsets one by one.
+use Prim.Native.Nat.{ℕ, suc, _+_, _≤_, _<_}
+use mathlib.Core.Path.{_≡_, sym, ap, _∙_}
+use mathlib.Core.List.{List, [], _∷_}
+use native.Mathlib.Omega.{arith}
+use native.Mathlib.Numerals.{add-one}
+use lib.ListN.{length, take, drop, length-map, length-take, drop-of-length-le}
+use lib.Seq.{drop-cons, getD-take}
+use mir.Val.{Val}
+use denote.Laws.{Is}
+use Rattle.reader.specs.declared.HpsReader.{HpsReader}
+use Rattle.reader.specs.OpeningAndReading.{Readable, offsetIn, offsetsFrom}
+use Rattle.reader.proofs.HpsReader as R
+
+pub record Shaped (r : HpsReader) : Type 0 where
+  pub channels : length (r .channels) ≡ 2
+  pub offsets : length (r .offsets) ≡ 512
+
+pub shaped : (r : HpsReader) (vs : List Val) → Is R.the-row r vs → Shaped r
+shaped r vs is = record {
+  channels = sym (length-map (r .channels) _) ∙ is .1 .1 .1 .1 .0 .1 .0 .1;
+  offsets = sym (length-map (r .offsets) _) ∙ is .1 .1 .1 .1 .1 .1 .0 .1 .0 .1;
+}
+
+-- the offsets of the blocks from i on: none past the last, else that of block i first
+pub offsets-none : (r : HpsReader) (i : ℕ) → r .blocks ≤ i → offsetsFrom r i ≡ []
+offsets-none r i h = drop-of-length-le (take (r .blocks) (r .offsets)) {i = i} (simp length-take (omega arith))
+
+pub offsets-more : (r : HpsReader) (i : ℕ) → Shaped r → Readable r → i < r .blocks → offsetsFrom r i ≡ offsetIn r i ∷ offsetsFrom r (i + 1)
+offsets-more r i shape ok h =
+    let l : i < length (take (r .blocks) (r .offsets)) = simp length-take (omega (arith, shape .offsets, ok .blocks)) in
+    rw (add-one i) (drop-cons (take (r .blocks) (r .offsets)) i 0 l ∙ ap (λ (o : ℕ). o ∷ drop (suc i) (take (r .blocks) (r .offsets))) (getD-take (r .blocks) (r .offsets) i 0 h))

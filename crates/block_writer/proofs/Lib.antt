@@ -1,0 +1,6 @@
+pub mod DecideLaws
+pub mod CoefficientLaws
+pub mod PushDueLaws
+pub mod TakeLaws
+pub mod PushLaws
+pub mod BlockLaws

@@ -1,0 +1,61 @@
+use mathlib.Core.Path.{_≡_, refl}
+use lib.ListN.{length}
+use Rattle.writer.specs.Calls.{headerOf, afterFinish}
+use Rattle.header_writer.proofs.FinishLaws.{finish-refused, sum-fits, room, finish-accepted}
+use borrow.Author.Needs.{needs}
+use Rattle.header_writer.proofs.finish.finish.Statement.{statement}
+use Rattle.header_writer.proofs.finish.finish.Tie as tie
+
+finish-due-requires : tie.Need-finish-due-requires
+finish-due-requires c κs = search needs
+
+refused-requires : tie.Need-refused-requires
+refused-requires c κs = search needs
+
+returns : tie.Need-returns
+returns c =
+    let d = c .before .before in
+    let s = d .before .before in
+    finish-refused (s .args .w) (s .args .lent .now) (s .pre) _ (d .finish-due .ensures) _ (c .refused .ensures) (c .before .if1 .taken)
+
+header-requires : tie.Need-header-requires
+header-requires c κs =
+    let d = c .before .before .before in
+    let s = d .before .before in
+    sum-fits (s .args .w) (s .args .lent .now) (s .pre) _ (d .finish-due .ensures) (c .before .before .if1 .left)
+
+slice-aggregate-hand-out : tie.Need-slice-aggregate-hand-out
+slice-aggregate-hand-out c = search needs
+
+size : (c : tie.After-header) → length (c .header .result) ≡ 128
+size c = search needs
+
+hand-out-requires : tie.Need-hand-out-requires
+hand-out-requires c κs =
+    let d = c .before .before .before .before .before .before in
+    let s = d .before .before in
+    (size (c .before .before), room (s .args .w) (s .args .lent .now) (s .pre) _ (d .finish-due .ensures) (c .before .before .before .before .before .if1 .left))
+
+same-length : tie.Need-same-length
+same-length c = search needs
+
+returns-2 : tie.Need-returns-2
+unfolding headerOf afterFinish
+returns-2 c =
+    let h = c .before .before .before .before .before .before .before .before in
+    let d = h .before .before .before .before in
+    let s = d .before .before in
+    finish-accepted (s .args .w) (s .args .lent .now) (s .pre) _ (d .finish-due .ensures) (h .before .before .before .if1 .left) (h .header .result) _ _ (h .header .ensures) (size h) (c .before .before .before .before .before .hand-out .ensures) refl
+
+pub finish-spec : {M : Type 1} → statement M
+finish-spec =
+    tie.close
+    (tie.spec
+    finish-due-requires
+    refused-requires
+    returns
+    header-requires
+    slice-aggregate-hand-out
+    hand-out-requires
+    same-length
+    returns-2)

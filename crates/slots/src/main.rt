@@ -6,35 +6,22 @@ use io::large_buffer;
 use io::print_decimal;
 use io::read_full;
 use io::write_all;
-use layout::fields::U32Read;
-use layout::fields::inside;
-use layout::fields::read_u32;
 use libc::STDIN_FILENO;
 use libc::STDOUT_FILENO;
 use listing::listing::fill;
 use listing::listing::start_listing;
+use stored::number;
+use stored::part;
 ghost use Prim.Native.Nat.{_<_};
 
 // A listing has fewer than 5,000,000 bytes, and each turn compares 65,000 or the rest.
 const TURNS: usize = 100;
 
-// n bytes from at on, none where they are not there.
-fn part<'a>(s: &'a [u8], at: usize, n: usize) -> &'a [u8] {
-    if inside(s.len(), at, n) {
-        let end = at + n;
-        return &s[at..end];
-    }
-    &s[..0]
-}
-
-// How many bytes a stored length says, none where there is no length.
+// How many bytes a stored length says.
 fn length_at(s: &[u8], at: usize) -> usize
     ensures { λ r. ⌜ r < 4294967296 ⌝ }
 {
-    let U32Read::Value(n) = read_u32(s, at) else {
-        return 0;
-    };
-    n as usize
+    number(s, at) as usize
 }
 
 fn is_listing(s: &[u8], want: &[u8]) -> bool {

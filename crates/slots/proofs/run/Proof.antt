@@ -8,7 +8,7 @@ use Rattle.slots.proofs.run.Reads as reads
 use Rattle.slots.proofs.run.Lts as lts
 use Rattle.slots.proofs.is_listing.Reads as is-listing-reads
 use Rattle.slots.proofs.length_at.Reads as length-at-reads
-use Rattle.slots.proofs.part.Reads as part-reads
+use Rattle.stored.proofs.part.Reads as part-reads
 use Rattle.slots.proofs.print_line.Reads as print-line-reads
 
 abbrev Inv-loop : tie.InvT-loop

@@ -4,10 +4,10 @@ use lib.ListN.{length}
 use denote.Ref.{now}
 use borrow.Author.Needs.{needs}
 use Rattle.layout.proofs.FieldLaws.{passed}
-use Rattle.slots.proofs.part.Statement.{statement}
-use Rattle.slots.proofs.part.Tie as tie
-use Rattle.slots.proofs.part.Reads as reads
-use Rattle.slots.proofs.part.Lts as lts
+use Rattle.stored.proofs.part.Statement.{statement}
+use Rattle.stored.proofs.part.Tie as tie
+use Rattle.stored.proofs.part.Reads as reads
+use Rattle.stored.proofs.part.Lts as lts
 use Rattle.layout.proofs.fields.inside.Reads as inside-reads
 
 -- src/main.rt:22:8

@@ -1,0 +1,21 @@
+// Parts and numbers of a stored input, as the programs of the gate read it. What is not there is empty, or 0.
+use layout::fields::U32Read;
+use layout::fields::inside;
+use layout::fields::read_u32;
+
+// n bytes from at on, none where they are not there.
+pub fn part<'a>(s: &'a [u8], at: usize, n: usize) -> &'a [u8] {
+    if inside(s.len(), at, n) {
+        let end = at + n;
+        return &s[at..end];
+    }
+    &s[..0]
+}
+
+// A big-endian u32, 0 where it is not there.
+pub fn number(s: &[u8], at: usize) -> u32 {
+    let U32Read::Value(n) = read_u32(s, at) else {
+        return 0;
+    };
+    n
+}

@@ -18,7 +18,7 @@ use Rattle.layout.proofs.Lengths.{be32-length, cue-length, cues-length, filled-
 use Rattle.layout.proofs.SizeLaws.{aligned}
 use Rattle.written.proofs.WrittenLaws.{put-length-32, header-put-is}
 use Rattle.layout.proofs.Cases.{by-cases}
-use Rattle.layout.proofs.PutLaws.{putAt-length, putAt-none, putAt-next, Put, put-then}
+use Rattle.puts.proofs.PutLaws.{putAt-length, putAt-none, putAt-next, Put, put-then}
 use Rattle.writer.specs.Loading.{loops, points, pointsOf}
 use Rattle.block_writer.specs.PushParts.{paddedSize, cuePoint, pointBytes, filledBytes, dataIn, secondContext, blockFor, Taking}
 use Rattle.writer.specs.Calls.{Good}

@@ -1,5 +1,3 @@
-pub mod DecideLaws
-pub mod CoefficientLaws
 pub mod PushDueLaws
 pub mod TakeLaws
 pub mod PushLaws

@@ -17,31 +17,10 @@ use Rattle.writer.specs.Calls.{standingIn}
 use Rattle.writer.specs.declared.ChannelBlock.{ChannelBlock}
 use Rattle.writer.specs.declared.Cue.{Cue}
 use Rattle.writer.specs.declared.HpsWriter.{HpsWriter}
-use Rattle.block_writer.specs.PushParts.{pushArgs, stateDue, rateDue, lengthDue, dataDue, coefficientsDue, earlyDue, roomDue}
+use Rattle.push_due.specs.PushDue.{pushArgs, stateDue, rateDue, lengthDue, dataDue, coefficientsDue, earlyDue, roomDue}
 use Rattle.writer.proofs.GoodLaws.{short-length}
-use Rattle.block_writer.proofs.DecideLaws.{Numbered, none, more, group-yes, group-no}
-
-pub state-numbered : (last : Bool) (own n ch : ℕ) → Numbered (stateDue last own n ch)
-unfolding stateDue
-state-numbered last own n ch = more (more (more none))
-
-pub rate-numbered : (n f ch l r : ℕ) → Numbered (rateDue n f ch l r)
-unfolding rateDue
-rate-numbered n f ch l r = more (more (more none))
-
-pub length-numbered : (ch l r : ℕ) → Numbered (lengthDue ch l r)
-unfolding lengthDue
-length-numbered ch l r = more (more (more none))
-
-pub data-numbered : (ch l lb r rb : ℕ) → Numbered (dataDue ch l lb r rb)
-unfolding dataDue
-data-numbered ch l lb r rb = more none
-
-early-numbered : (last : Bool) (own n : ℕ) (f g : ChannelBlock) (ch : ℕ) (l r : ChannelBlock) (lb rb : ℕ) → Numbered (earlyDue last own n f g ch l r lb rb)
-unfolding earlyDue stateDue rateDue lengthDue dataDue coefficientsDue
-early-numbered last own n f g ch l r lb rb = more (more (more (more (more (more (more (more (more (more (more none))))))))))
-
-pub ruleset grouped = (group-yes, group-no, state-numbered, rate-numbered, length-numbered, data-numbered)
+use Rattle.push_due.proofs.DecideLaws.{group-yes, group-no}
+use Rattle.push_due.proofs.GroupLaws.{early-numbered}
 
 -- ---- The whole order
 

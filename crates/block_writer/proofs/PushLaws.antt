@@ -15,11 +15,12 @@ use Rattle.layout.specs.Puts.{putAt}
 use Rattle.layout.specs.Sizes.{saturated}
 use Rattle.layout.proofs.SizeLaws.{aligned}
 use Rattle.layout.proofs.Cases.{by-cases}
-use Rattle.layout.proofs.PutLaws.{putAt-in}
+use Rattle.puts.proofs.PutLaws.{putAt-in}
 use Rattle.writer.specs.Loading.{Push, lengthOf, dataOf, points, anyLoop, blockSize, bytesOf, pushRefusal}
 use Rattle.writer.specs.WritesAndCuttingRule.{handed}
 use Rattle.writer.specs.Calls.{noPlace, called, takesOf, takenOf, endFor, standingIn, loopDue, orAt, loopAfter, atOrNone, nextFor, afterPush, pushBytes, pushOf, Good}
-use Rattle.block_writer.specs.PushParts.{pushArgs, tallied, takesTo, takenTo, loopsTo, paddedSize, dataIn, blockFor, advanced}
+use Rattle.push_due.specs.PushDue.{pushArgs}
+use Rattle.block_writer.specs.PushParts.{tallied, takesTo, takenTo, loopsTo, paddedSize, dataIn, blockFor, advanced}
 use Rattle.writer.specs.declared.Looping.the-variants.{Disabled, Enabled, Auto}
 use Rattle.writer.specs.declared.LoopAt.{LoopAt}
 use Rattle.writer.specs.declared.LoopAt.the-variants.{Nowhere, At}

@@ -1,8 +1,8 @@
 // A block: the cues that it takes, and its bytes.
 use layout::BlockHeader;
 use layout::FrameContext;
-use layout::puts::put_u32;
-use layout::sizes::align;
+use puts::put_u32;
+use sizes::align;
 use writer::ChannelBlock;
 use writer::Cue;
 use writer::CueKind;

@@ -1,5 +1,4 @@
 // The push call (document 01, "Loading"): a block's refusals, its bytes and what follows for the writer's record.
 
 pub mod block; // block.rt: the bytes of a block
-pub mod due; // due.rt: the refusals of push, in their order
 pub mod push; // push.rt: the push call

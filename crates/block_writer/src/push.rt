@@ -6,9 +6,9 @@ use crate::block::data_size;
 use crate::block::data_start;
 use crate::block::put_block;
 use crate::block::tally;
-use crate::due::early_due;
-use crate::due::room_due;
-use layout::sizes::adpcm_samples;
+use push_due::early_due;
+use push_due::room_due;
+use sizes::adpcm_samples;
 use writer::Called;
 use writer::ChannelBlock;
 use writer::HpsWriter;
@@ -21,7 +21,8 @@ ghost use Prim.Native.Nat.{ℕ, _+_, _<_, _≤_, _^_};
 ghost use lib.Dec.{eqb};
 ghost use Rattle.layout.specs.Choice.{pick};
 ghost use Rattle.writer.specs.Calls.{called, noPlace, orAt, atOrNone, pushOf, Good};
-ghost use Rattle.block_writer.specs.PushParts.{pushArgs, tallied, takesTo, takenTo, loopsTo, advanced};
+ghost use Rattle.push_due.specs.PushDue.{pushArgs};
+ghost use Rattle.block_writer.specs.PushParts.{tallied, takesTo, takenTo, loopsTo, advanced};
 
 const END_BLOCK_OFFSET: u32 = 4294967295;
 

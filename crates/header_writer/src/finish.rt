@@ -2,7 +2,7 @@
 use layout::Channel;
 use layout::DspFormat;
 use layout::channels::no_channel;
-use layout::puts::put_bytes;
+use puts::put_bytes;
 use writer::ChannelBlock;
 use writer::Finished;
 use writer::HpsWriter;

@@ -1,16 +1,13 @@
-// A context, 6 bytes: read at an offset of a slot, and put into a lent buffer.
+// A context, 6 bytes, read at an offset of a slot.
 use crate::FrameContext;
 use crate::fields::be16;
 use crate::fields::inside;
 use crate::fields::signed16;
-use crate::puts::put_i16;
-use crate::puts::put_u16;
 ghost use mathlib.Core.Path.{_≡_};
 ghost use Prim.Native.Nat.{_+_, _≤_};
 ghost use lib.ListN.{length};
-ghost use Rattle.layout.specs.Records.{field, contextAt, contextBytes};
+ghost use Rattle.layout.specs.Records.{field, contextAt};
 ghost use Rattle.layout.specs.Answers.{contextRead};
-ghost use Rattle.layout.specs.Puts.{putAt};
 
 pub enum ContextRead {
     Value(FrameContext),
@@ -39,15 +36,5 @@ pub fn read_context(s: &[u8], at: usize) -> ContextRead
         ContextRead::Value(context_at(s, at))
     } else {
         ContextRead::Short
-    }
-}
-
-pub fn put_context(buf: &mut [u8], at: usize, c: FrameContext)
-    ensures { λ _. ⌜ now (buf .exit) ≡ putAt (now (buf .entry)) at (contextBytes c) ⌝ }
-{
-    if inside(buf.len(), at, 6) {
-        put_u16(buf, at, c.predictor_and_scale);
-        put_i16(buf, at + 2, c.last);
-        put_i16(buf, at + 4, c.oldest);
     }
 }

@@ -1,4 +1,3 @@
-pub mod ColumnLaws
 pub mod ListingLaws
 pub mod LineLaws
 pub mod StartLaws

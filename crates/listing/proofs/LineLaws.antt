@@ -6,7 +6,7 @@ use native.Mathlib.Omega.{arith}
 use lib.ListN.{length, take, length-append}
 use lib.Seq.{length-take-le}
 use Rattle.layout.specs.Puts.{putAt}
-use Rattle.layout.proofs.PutLaws.{putAt-none, putAt-next, putAt-length}
+use Rattle.puts.proofs.PutLaws.{putAt-none, putAt-next, putAt-length}
 use Rattle.reader.specs.CuesReadBack.{CueAnswer, cueStep}
 use Rattle.reader.specs.declared.HpsReader.{HpsReader}
 use Rattle.reader.specs.declared.CueIterator.{CueIterator}
@@ -15,9 +15,10 @@ use Rattle.cue_reader.specs.declared.CueReply.{CueReply}
 use Rattle.cue_reader.specs.declared.CueCall.{CueCall}
 use Rattle.listing.specs.declared.Stage.{Stage}
 use Rattle.listing.specs.declared.listing.Line.{Line}
-use Rattle.listing.specs.MarkingKey.{loopLine, cueLine, listingFrom}
+use Rattle.lines.specs.Lines.{loopLine, cueLine}
+use Rattle.listing.specs.MarkingKey.{listingFrom}
 use Rattle.listing.specs.Filling.{LineIs, FilledIs}
-use Rattle.listing.proofs.ColumnLaws.{loop-length, cue-length}
+use Rattle.lines.proofs.ColumnLaws.{loop-length, cue-length}
 use Rattle.listing.proofs.ListingLaws.{cues-none, cues-refused, cues-end, cues-loop, cues-point}
 
 module _ (s : List ℕ) (r : HpsReader) (stage : Stage) (out : List ℕ) (at : ℕ) where

@@ -11,13 +11,14 @@ use borrow.Author.Tests.{lt-ltb, le-ltb}
 use Rattle.layout.specs.Records.{Read, readHeader, lengthIn}
 use Rattle.layout.specs.Puts.{putAt}
 use Rattle.layout.specs.declared.BlockHeader.{BlockHeader}
-use Rattle.layout.proofs.PutLaws.{putAt-in, putAt-next, putAt-none}
+use Rattle.puts.proofs.PutLaws.{putAt-in, putAt-next, putAt-none}
 use Rattle.reader.specs.OpeningAndReading.{Opened, opening, Readable, channelIn, offsetIn, offsetsFrom}
 use Rattle.reader.specs.CuesReadBack.{CueAnswer, firstCursor, cueStep}
 use Rattle.reader.specs.declared.HpsReader.{HpsReader}
 use Rattle.reader.specs.declared.CueIterator.{CueIterator}
 use Rattle.listing.specs.declared.Stage.{Stage}
-use Rattle.listing.specs.MarkingKey.{cueCalls, stopLine, headLine, blockLine, loopLine, cueLine, cueLines, blockLines, wholeListing, onOpened, listing, listingFrom}
+use Rattle.lines.specs.Lines.{stopLine, headLine, blockLine, loopLine, cueLine}
+use Rattle.listing.specs.MarkingKey.{cueCalls, cueLines, blockLines, wholeListing, onOpened, listing, listingFrom}
 
 module _ (s : List ℕ) (r : HpsReader) where
   pub stop-rest : (n : ℕ) → listingFrom s r (Stage.Stop n) ≡ stopLine n ++ listingFrom s r Stage.Done

@@ -6,11 +6,11 @@ use mathlib.Core.Logic.{⊎-elim}
 use native.Mathlib.Omega.{arith}
 use Rattle.reader.specs.OpeningAndReading.{Opened, opening, Readable}
 use Rattle.reader.specs.ReaderAnswers.{noReader, openCall}
-use Rattle.reader.specs.ReaderLaws.{OpeningLaws}
+use Rattle.reader_laws.specs.ReaderLaws.{OpeningLaws}
 use Rattle.reader.specs.declared.HpsReader.{HpsReader}
 use Rattle.reader.specs.declared.opening.OpenReply.{OpenReply}
 use Rattle.reader.specs.declared.opening.OpenCall.{OpenCall}
-use Rattle.reader.proofs.AcceptedLaws.{accepted}
+use Rattle.reader_laws.proofs.AcceptedLaws.{accepted}
 
 opened-readable : (s : List ℕ) (r : HpsReader) → opening s ≡ Opened.opened r → Readable r
 unfolding OpeningLaws

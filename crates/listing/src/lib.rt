@@ -1,9 +1,7 @@
 // The listing of a slot, as `key` prints it (document 01, "Marking key and estimate").
 use reader::CueIterator;
 
-pub mod columns; // columns.rt: right-justified decimals
 pub mod listing; // listing.rt: the listing from its start, and as much of it as fits
-pub mod lines; // lines.rt: the lines of the listing
 
 // Where the listing stands: what is printed next. Cues has how many cue calls may still be made.
 pub enum Stage {

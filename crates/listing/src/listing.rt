@@ -1,15 +1,15 @@
 // The listing, line by line, and as much of it as a lent buffer holds.
 use crate::Stage;
-use crate::lines::put_block;
-use crate::lines::put_cue;
-use crate::lines::put_head;
-use crate::lines::put_loop;
-use crate::lines::put_stop;
 use cue_reader::CueReply;
 use cue_reader::first_cursor;
 use cue_reader::next_cue;
 use layout::block::HeaderRead;
 use layout::block::read_header;
+use lines::lines::put_block;
+use lines::lines::put_cue;
+use lines::lines::put_head;
+use lines::lines::put_loop;
+use lines::lines::put_stop;
 use reader::CueIterator;
 use reader::HpsReader;
 use reader::opening::OpenReply;

@@ -1,10 +1,11 @@
 -- The opening record: what its type gives, two channels and 512 offsets, and its offsets one by one.
-use Prim.Native.Nat.{ℕ, suc, _+_, _≤_, _<_}
-use mathlib.Core.Path.{_≡_, sym, ap, _∙_}
+use Prim.Native.Nat.{ℕ, zero, suc, _+_, _≤_, _<_}
+use mathlib.Core.Path.{_≡_, refl, sym, ap, _∙_}
 use mathlib.Core.List.{List, [], _∷_}
 use native.Mathlib.Omega.{arith}
 use native.Mathlib.Numerals.{add-one}
-use lib.ListN.{length, take, drop, length-map, length-take, drop-of-length-le}
+use native.Mathlib.Nat.{le-of-suc-le-suc, not-suc-le-zero}
+use lib.ListN.{length, take, drop, getD, length-map, length-take, drop-of-length-le}
 use lib.Seq.{drop-cons, getD-take}
 use mir.Val.{Val}
 use denote.Laws.{Is}
@@ -30,3 +31,9 @@ pub offsets-more : (r : HpsReader) (i : ℕ) → Shaped r → Readable r → i <
 offsets-more r i shape ok h =
     let l : i < length (take (r .blocks) (r .offsets)) = simp length-take (omega (arith, shape .offsets, ok .blocks)) in
     rw (add-one i) (drop-cons (take (r .blocks) (r .offsets)) i 0 l ∙ ap (λ (o : ℕ). o ∷ drop (suc i) (take (r .blocks) (r .offsets))) (getD-take (r .blocks) (r .offsets) i 0 h))
+
+-- an element, whatever stands beyond the list's end
+pub element : {A : Type 0} (l : List A) (i : ℕ) (d d′ : A) → i < length l → getD l i d ≡ getD l i d′
+element [] i d d′ h = absurd (not-suc-le-zero h)
+element (x ∷ xs) zero d d′ h = refl
+element (x ∷ xs) (suc i) d d′ h = element xs i d d′ (le-of-suc-le-suc h)

@@ -1,5 +1,11 @@
 // Every reading call on the slot of standard input: the channels of its opening, then for each channel and position the addresses remaining and the
 // block read, up to the end. A block's line is followed by its data. tests/oracle/compare holds it to the Rust.
+use block_reader::blocks::BlockCall;
+use block_reader::blocks::BlockReply;
+use block_reader::blocks::RemainingReply;
+use block_reader::blocks::block_data;
+use block_reader::blocks::data_remaining;
+use block_reader::blocks::read_block;
 use io::print_decimal;
 use io::read_full;
 use io::write_all;
@@ -8,18 +14,12 @@ use layout::DspFormat;
 use layout::FrameContext;
 use layout::fields::U16Read;
 use layout::fields::read_u16;
-use layout::puts::put_i16;
 use libc::STDIN_FILENO;
 use libc::STDOUT_FILENO;
 use listing::listing::start_listing;
+use puts::put_i16;
 use reader::BLOCK_LIMIT;
 use reader::HpsReader;
-use reader::blocks::BlockCall;
-use reader::blocks::BlockReply;
-use reader::blocks::RemainingReply;
-use reader::blocks::block_data;
-use reader::blocks::data_remaining;
-use reader::blocks::read_block;
 ghost use Rattle.reader.specs.OpeningAndReading.{Readable};
 
 fn print_number(n: u64) {

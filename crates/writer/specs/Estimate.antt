@@ -6,9 +6,7 @@ use lib.Dec.{ltb}
 use Rattle.layout.specs.Lists.{sum}
 use Rattle.layout.specs.Records.{P, adpcmBytes}
 use Rattle.layout.specs.Refusals.{Due, due, firstDue, wrongCount, blockLimit, tooShort, tooLarge}
-use Rattle.writer.specs.Loading.{Answer, accepted, refused, answerBy}
-use Rattle.writer.specs.declared.estimate.EstimateReply.{EstimateReply}
-use Rattle.writer.specs.declared.estimate.EstimateReply.the-variants.{Refused, Length}
+use Rattle.writer.specs.Loading.{Answer, answerBy}
 
 -- "then per length 10, 13"
 unfoldable pub lengthsDue : (channels : ℕ) → List ℕ → List Due
@@ -26,8 +24,3 @@ estimated ch ns p = 128 + sum (λ n. 32 + ch * P (adpcmBytes n)) ns + 32 * p
 -- "The estimate takes block lengths, channel count and a u32 number p of point and range cues, and gives a u64"
 unfoldable pub estimateOf : (channels : ℕ) → (lengths : List ℕ) → (p : ℕ) → Answer
 estimateOf ch ns p = answerBy (estimateRefusal ch ns) (estimated ch ns p)
-
--- The enum for each answer: the number of a refusal, the estimate.
-abbrev pub estimateReply : Answer → EstimateReply
-estimateReply (refused n) = Refused n
-estimateReply (accepted n) = Length n

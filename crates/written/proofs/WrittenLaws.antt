@@ -14,7 +14,7 @@ use Rattle.written.specs.HeaderPut.{headerPut}
 use Rattle.layout.specs.declared.FrameContext.{FrameContext}
 use Rattle.layout.specs.declared.BlockHeader.{BlockHeader}
 use Rattle.layout.proofs.Lengths.{be32-length, beZ16-length, context-length, header-length, coefficients-length}
-use Rattle.layout.proofs.PutLaws.{putAt-none, putAt-next}
+use Rattle.puts.proofs.PutLaws.{putAt-none, putAt-next}
 
 pub words-length : (a b c : ℕ) → length (be32 a ++ be32 b ++ be32 c) ≡ 12
 words-length a b c = simp (length-append, be32-length)

@@ -7,7 +7,7 @@ use denote.Ref.{now}
 use Rattle.layout.specs.Records.{noChannel}
 use Rattle.reader.proofs.HeaderLaws.{header-got, header-short}
 use Rattle.reader.proofs.RecordLaws.{shaped}
-use Rattle.reader.proofs.BlockLaws.{element}
+use Rattle.reader.proofs.RecordLaws.{element}
 use Rattle.cue_reader.proofs.NextCueLaws.{Stepping, stepping-none, Here, step-end, step-loop, step-short, step-here, cue-inside, step-point, step-next}
 use Rattle.cue_reader.proofs.next_cue.Statement.{statement}
 use Rattle.cue_reader.proofs.next_cue.Tie as tie

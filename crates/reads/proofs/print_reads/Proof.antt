@@ -5,9 +5,9 @@ use Rattle.reads.proofs.print_reads.Tie as tie
 use Rattle.reads.proofs.print_reads.Reads as reads
 use Rattle.reads.proofs.print_reads.Lts as lts
 use Rattle.io.proofs.write_all.Reads as write-all-reads
-use Rattle.reader.proofs.blocks.block_data.Reads as block-data-reads
-use Rattle.reader.proofs.blocks.data_remaining.Reads as data-remaining-reads
-use Rattle.reader.proofs.blocks.read_block.Reads as read-block-reads
+use Rattle.block_reader.proofs.blocks.block_data.Reads as block-data-reads
+use Rattle.block_reader.proofs.blocks.data_remaining.Reads as data-remaining-reads
+use Rattle.block_reader.proofs.blocks.read_block.Reads as read-block-reads
 use Rattle.reads.proofs.print_block.Reads as print-block-reads
 use Rattle.reads.proofs.print_remaining.Reads as print-remaining-reads
 use Rattle.reads.proofs.print_start.Reads as print-start-reads

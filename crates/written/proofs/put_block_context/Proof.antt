@@ -10,14 +10,14 @@ use Rattle.layout.proofs.Lengths.{context-length}
 use Rattle.written.proofs.WrittenLaws.{block-context-length}
 use Rattle.layout.specs.Puts.{putAt}
 use Rattle.layout.proofs.FieldLaws.{passed, failed}
-use Rattle.layout.proofs.PutLaws.{Put, put-then, kept}
+use Rattle.puts.proofs.PutLaws.{Put, put-then, kept}
 use Rattle.written.proofs.put_block_context.Statement.{statement}
 use Rattle.written.proofs.put_block_context.Tie as tie
 use Rattle.written.proofs.put_block_context.Reads as reads
 use Rattle.written.proofs.put_block_context.Lts as lts
-use Rattle.layout.proofs.context.put_context.Reads as put-context-reads
+use Rattle.puts.proofs.put_context.Reads as put-context-reads
 use Rattle.layout.proofs.fields.inside.Reads as inside-reads
-use Rattle.layout.proofs.puts.put_u16.Reads as put-u16-reads
+use Rattle.puts.proofs.put_u16.Reads as put-u16-reads
 
 room : (c : tie.Then1) → c .before .before .before .args .at + 8 ≤ length (now (c .before .before .before .args .buf))
 room c = passed (c .before .inside .ensures) (c .if1 .taken)

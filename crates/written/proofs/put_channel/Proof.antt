@@ -10,15 +10,15 @@ use Rattle.layout.specs.Records.{be16, be32, beZ16, contextBytes, channelBytes}
 use Rattle.layout.specs.Puts.{putAt}
 use Rattle.layout.proofs.Lengths.{be16-length, context-length, coefficients-length, channel-length}
 use Rattle.layout.proofs.FieldLaws.{passed, failed}
-use Rattle.layout.proofs.PutLaws.{Put, put-then, kept}
+use Rattle.puts.proofs.PutLaws.{Put, put-then, kept}
 use Rattle.written.proofs.WrittenLaws.{words-length}
 use Rattle.written.proofs.put_channel.Statement.{statement}
 use Rattle.written.proofs.put_channel.Tie as tie
 use Rattle.written.proofs.put_channel.Reads as reads
 use Rattle.written.proofs.put_channel.Lts as lts
-use Rattle.layout.proofs.context.put_context.Reads as put-context-reads
+use Rattle.puts.proofs.put_context.Reads as put-context-reads
 use Rattle.layout.proofs.fields.inside.Reads as inside-reads
-use Rattle.layout.proofs.puts.put_u16.Reads as put-u16-reads
+use Rattle.puts.proofs.put_u16.Reads as put-u16-reads
 use Rattle.written.proofs.format_number.Reads as format-number-reads
 use Rattle.written.proofs.looping_number.Reads as looping-number-reads
 use Rattle.written.proofs.put_coefficients.Reads as put-coefficients-reads

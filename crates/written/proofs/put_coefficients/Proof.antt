@@ -8,7 +8,7 @@ use mir.Facts.{toZ-ofZ}
 use native.Mathlib.Omega.{arith}
 use borrow.Author.Needs.{needs}
 use Rattle.layout.proofs.FieldLaws.{passed, failed}
-use Rattle.layout.proofs.PutLaws.{kept, putAt-length}
+use Rattle.puts.proofs.PutLaws.{kept, putAt-length}
 use Rattle.layout.proofs.Lengths.{coefficients-length}
 use Rattle.written.proofs.WrittenLaws.{Coefficienting, coefficients-none, coefficients-more, coefficients-all}
 use Rattle.written.proofs.put_coefficients.Statement.{statement}
@@ -16,7 +16,7 @@ use Rattle.written.proofs.put_coefficients.Tie as tie
 use Rattle.written.proofs.put_coefficients.Reads as reads
 use Rattle.written.proofs.put_coefficients.Lts as lts
 use Rattle.layout.proofs.fields.inside.Reads as inside-reads
-use Rattle.layout.proofs.puts.put_i16.Reads as put-i16-reads
+use Rattle.puts.proofs.put_i16.Reads as put-i16-reads
 
 abbrev Inv-loop : tie.InvT-loop
 Inv-loop buf₀ at coefficients i₀ buf i = Coefficienting buf₀ at coefficients buf i

@@ -12,14 +12,14 @@ use mir.Val.{SFits}
 use mir.Facts.{toZ-ofZ}
 use Rattle.layout.specs.Puts.{putAt}
 use Rattle.layout.proofs.FieldLaws.{passed, failed}
-use Rattle.layout.proofs.PutLaws.{Put, put-then, kept}
+use Rattle.puts.proofs.PutLaws.{Put, put-then, kept}
 use Rattle.written.proofs.put_cue.Statement.{statement}
 use Rattle.written.proofs.put_cue.Tie as tie
 use Rattle.written.proofs.put_cue.Reads as reads
 use Rattle.written.proofs.put_cue.Lts as lts
 use Rattle.layout.proofs.fields.inside.Reads as inside-reads
-use Rattle.layout.proofs.puts.put_i32.Reads as put-i32-reads
-use Rattle.layout.proofs.puts.put_u32.Reads as put-u32-reads
+use Rattle.puts.proofs.put_i32.Reads as put-i32-reads
+use Rattle.puts.proofs.put_u32.Reads as put-u32-reads
 
 room : (c : tie.Then1) → c .before .before .before .args .at + 8 ≤ length (now (c .before .before .before .args .buf))
 room c = passed (c .before .inside .ensures) (c .if1 .taken)

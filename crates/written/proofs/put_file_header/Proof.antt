@@ -9,7 +9,7 @@ use Rattle.layout.specs.Records.{be32, magic, channelBytes, fileHeaderBytes}
 use Rattle.layout.specs.Puts.{putAt}
 use Rattle.layout.proofs.Lengths.{channel-length, file-header-length}
 use Rattle.layout.proofs.FieldLaws.{passed, failed}
-use Rattle.layout.proofs.PutLaws.{Put, put-then, kept}
+use Rattle.puts.proofs.PutLaws.{Put, put-then, kept}
 use Rattle.written.proofs.WrittenLaws.{magic-length}
 use Rattle.written.proofs.put_file_header.Statement.{statement}
 use Rattle.written.proofs.put_file_header.Tie as tie

@@ -1,13 +1,13 @@
 use mathlib.Core.Path.{ap, sym, _∙_}
 use borrow.Author.Needs.{needs}
 use Rattle.layout.specs.Puts.{putAt}
-use Rattle.layout.proofs.PutLaws.{putAt-none}
+use Rattle.puts.proofs.PutLaws.{putAt-none}
 use Rattle.written.proofs.WrittenLaws.{three-fill, two-fill, one-fill, no-fill}
 use Rattle.written.proofs.put_fillers.Statement.{statement}
 use Rattle.written.proofs.put_fillers.Tie as tie
 use Rattle.written.proofs.put_fillers.Reads as reads
 use Rattle.written.proofs.put_fillers.Lts as lts
-use Rattle.layout.proofs.puts.put_bytes.Reads as put-bytes-reads
+use Rattle.puts.proofs.put_bytes.Reads as put-bytes-reads
 
 -- src/lib.rt:68:28
 slice-aggregate-put-bytes : tie.Need-slice-aggregate-put-bytes

@@ -11,13 +11,13 @@ use Rattle.written.specs.HeaderPut.{headerPut}
 use Rattle.written.proofs.WrittenLaws.{words-length, block-context-length, put-length-32}
 use Rattle.layout.specs.Puts.{putAt}
 use Rattle.layout.proofs.FieldLaws.{passed, failed}
-use Rattle.layout.proofs.PutLaws.{Put, put-then, kept}
+use Rattle.puts.proofs.PutLaws.{Put, put-then, kept}
 use Rattle.written.proofs.put_header.Statement.{statement}
 use Rattle.written.proofs.put_header.Tie as tie
 use Rattle.written.proofs.put_header.Reads as reads
 use Rattle.written.proofs.put_header.Lts as lts
 use Rattle.layout.proofs.fields.inside.Reads as inside-reads
-use Rattle.layout.proofs.puts.put_bytes.Reads as put-bytes-reads
+use Rattle.puts.proofs.put_bytes.Reads as put-bytes-reads
 use Rattle.written.proofs.put_block_context.Reads as put-block-context-reads
 use Rattle.written.proofs.put_words.Reads as put-words-reads
 

@@ -10,14 +10,14 @@ use Rattle.layout.proofs.Lengths.{be32-length}
 use Rattle.written.proofs.WrittenLaws.{magic-length}
 use Rattle.layout.specs.Puts.{putAt}
 use Rattle.layout.proofs.FieldLaws.{passed, failed}
-use Rattle.layout.proofs.PutLaws.{Put, put-then, kept}
+use Rattle.puts.proofs.PutLaws.{Put, put-then, kept}
 use Rattle.written.proofs.put_magic.Statement.{statement}
 use Rattle.written.proofs.put_magic.Tie as tie
 use Rattle.written.proofs.put_magic.Reads as reads
 use Rattle.written.proofs.put_magic.Lts as lts
 use Rattle.layout.proofs.fields.inside.Reads as inside-reads
-use Rattle.layout.proofs.puts.put_bytes.Reads as put-bytes-reads
-use Rattle.layout.proofs.puts.put_u32.Reads as put-u32-reads
+use Rattle.puts.proofs.put_bytes.Reads as put-bytes-reads
+use Rattle.puts.proofs.put_u32.Reads as put-u32-reads
 
 room : (c : tie.Then1) → 0 + 16 ≤ length (now (c .before .before .before .args .buf))
 room c = passed (c .before .inside .ensures) (c .if1 .taken)

@@ -9,15 +9,15 @@ use Rattle.layout.specs.Records.{padded}
 use Rattle.layout.specs.Puts.{putAt}
 use Rattle.layout.proofs.Lengths.{padded-length}
 use Rattle.layout.proofs.FieldLaws.{passed, failed}
-use Rattle.layout.proofs.PutLaws.{Put, put-then, kept}
+use Rattle.puts.proofs.PutLaws.{Put, put-then, kept}
 use Rattle.written.proofs.WrittenLaws.{pad-is, pad-all}
 use Rattle.written.proofs.put_padded.Statement.{statement}
 use Rattle.written.proofs.put_padded.Tie as tie
 use Rattle.written.proofs.put_padded.Reads as reads
 use Rattle.written.proofs.put_padded.Lts as lts
 use Rattle.layout.proofs.fields.inside.Reads as inside-reads
-use Rattle.layout.proofs.puts.put_bytes.Reads as put-bytes-reads
-use Rattle.layout.proofs.puts.put_zeros.Reads as put-zeros-reads
+use Rattle.puts.proofs.put_bytes.Reads as put-bytes-reads
+use Rattle.puts.proofs.put_zeros.Reads as put-zeros-reads
 
 room : (c : tie.Then1) → c .before .before .before .before .args .at + (length (now (c .before .before .before .before .args .bytes)) + (32 - length (now (c .before .before .before .before .args .bytes)) % 32) % 32) ≤ length (now (c .before .before .before .before .args .buf))
 room c = passed (c .before .inside .ensures) (c .if1 .taken)

@@ -5,7 +5,7 @@ use Rattle.block_writer.proofs.block.data_size.Statement.{statement}
 use Rattle.block_writer.proofs.block.data_size.Tie as tie
 use Rattle.block_writer.proofs.block.data_size.Reads as reads
 use Rattle.block_writer.proofs.block.data_size.Lts as lts
-use Rattle.layout.proofs.sizes.align.Reads as align-reads
+use Rattle.sizes.proofs.align.Reads as align-reads
 
 align-requires : tie.Need-align-requires
 align-requires c κs = search needs

@@ -5,7 +5,7 @@ use Rattle.block_writer.proofs.block.data_start.Statement.{statement}
 use Rattle.block_writer.proofs.block.data_start.Tie as tie
 use Rattle.block_writer.proofs.block.data_start.Reads as reads
 use Rattle.block_writer.proofs.block.data_start.Lts as lts
-use Rattle.layout.proofs.sizes.align.Reads as align-reads
+use Rattle.sizes.proofs.align.Reads as align-reads
 
 mul-align : tie.Need-mul-align
 mul-align c = search needs

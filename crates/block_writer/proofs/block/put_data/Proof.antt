@@ -5,7 +5,7 @@ use Rattle.block_writer.proofs.block.put_data.Statement.{statement}
 use Rattle.block_writer.proofs.block.put_data.Tie as tie
 use Rattle.block_writer.proofs.block.put_data.Reads as reads
 use Rattle.block_writer.proofs.block.put_data.Lts as lts
-use Rattle.layout.proofs.sizes.align.Reads as align-reads
+use Rattle.sizes.proofs.align.Reads as align-reads
 use Rattle.written.proofs.put_padded.Reads as put-padded-reads
 
 put-padded-requires : tie.Need-put-padded-requires

@@ -4,7 +4,7 @@ use Rattle.block_writer.proofs.block.put_point.Statement.{statement}
 use Rattle.block_writer.proofs.block.put_point.Tie as tie
 use Rattle.block_writer.proofs.block.put_point.Reads as reads
 use Rattle.block_writer.proofs.block.put_point.Lts as lts
-use Rattle.layout.proofs.puts.put_u32.Reads as put-u32-reads
+use Rattle.puts.proofs.put_u32.Reads as put-u32-reads
 
 cast-put-u32 : tie.Need-cast-put-u32
 cast-put-u32 c = search needs

@@ -1,4 +1,4 @@
-use Rattle.block_writer.proofs.DecideLaws.{picked}
+use Rattle.push_due.proofs.DecideLaws.{picked}
 use Rattle.block_writer.proofs.block.second_context.Statement.{statement}
 use Rattle.block_writer.proofs.block.second_context.Tie as tie
 use Rattle.block_writer.proofs.block.second_context.Reads as reads

@@ -1,4 +1,4 @@
-use Rattle.block_writer.proofs.DecideLaws.{picked}
+use Rattle.push_due.proofs.DecideLaws.{picked}
 use Rattle.block_writer.proofs.push.first_side.Statement.{statement}
 use Rattle.block_writer.proofs.push.first_side.Tie as tie
 use Rattle.block_writer.proofs.push.first_side.Reads as reads

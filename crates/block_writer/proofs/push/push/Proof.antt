@@ -6,7 +6,7 @@ use Rattle.layout.specs.Records.{P}
 use Rattle.layout.specs.Puts.{putAt}
 use Rattle.writer.specs.Loading.{Push, pushRefusal}
 use Rattle.writer.specs.Calls.{takenOf, standingIn}
-use Rattle.block_writer.specs.PushParts.{pushArgs}
+use Rattle.push_due.specs.PushDue.{pushArgs}
 use Rattle.writer.proofs.GoodLaws.{samples-few, push-good}
 use Rattle.block_writer.proofs.PushDueLaws.{Passing, passing, early-refused, early-passed}
 use Rattle.block_writer.proofs.TakeLaws.{taking}
@@ -17,10 +17,10 @@ use Rattle.block_writer.proofs.push.push.Statement.{statement}
 use Rattle.block_writer.proofs.push.push.Tie as tie
 use Rattle.block_writer.proofs.push.push.Reads as reads
 use Rattle.block_writer.proofs.push.push.Lts as lts
-use Rattle.layout.proofs.sizes.adpcm_samples.Reads as adpcm-samples-reads
+use Rattle.sizes.proofs.adpcm_samples.Reads as adpcm-samples-reads
 use Rattle.block_writer.proofs.block.put_block.Reads as put-block-reads
-use Rattle.block_writer.proofs.due.early_due.Reads as early-due-reads
-use Rattle.block_writer.proofs.due.room_due.Reads as room-due-reads
+use Rattle.push_due.proofs.early_due.Reads as early-due-reads
+use Rattle.push_due.proofs.room_due.Reads as room-due-reads
 use Rattle.block_writer.proofs.push.advance.Reads as advance-reads
 use Rattle.block_writer.proofs.block.data_start.Reads as data-start-reads
 use Rattle.block_writer.proofs.block.data_size.Reads as data-size-reads

@@ -9,12 +9,12 @@ use Rattle.layout.specs.Puts.{putAt}
 use Rattle.layout.specs.declared.DspFormat.{DspFormat}
 use Rattle.layout.specs.declared.Channel.{Channel}
 use Rattle.reader.specs.OpeningAndReading.{channelIn, offsetIn}
-use Rattle.reader.proofs.BlockLaws.{element}
+use Rattle.reader.proofs.RecordLaws.{element}
 use Rattle.reader.proofs.HeaderLaws.{header-got, header-short}
 use Rattle.reader.proofs.RecordLaws.{shaped}
 use Rattle.listing.specs.declared.Stage.{Stage}
-use Rattle.listing.specs.MarkingKey.{blockLine}
-use Rattle.listing.proofs.ColumnLaws.{block-length}
+use Rattle.lines.specs.Lines.{blockLine}
+use Rattle.lines.proofs.ColumnLaws.{block-length}
 use Rattle.listing.proofs.ListingLaws.{block-short, block-rest}
 use Rattle.listing.proofs.LineLaws.{line-done, line-put}
 use Rattle.listing.proofs.listing.block_line.Statement.{statement}
@@ -22,7 +22,7 @@ use Rattle.listing.proofs.listing.block_line.Tie as tie
 use Rattle.listing.proofs.listing.block_line.Reads as reads
 use Rattle.listing.proofs.listing.block_line.Lts as lts
 use Rattle.layout.proofs.block.read_header.Reads as read-header-reads
-use Rattle.listing.proofs.lines.put_block.Reads as put-block-reads
+use Rattle.lines.proofs.lines.put_block.Reads as put-block-reads
 use Rattle.listing.proofs.listing.done.Reads as done-reads
 
 -- src/listing.rt:83:18

@@ -5,16 +5,16 @@ use lib.ListN.{length}
 use denote.Ref.{now}
 use borrow.Author.Needs.{needs}
 use Rattle.listing.specs.declared.Stage.{Stage}
-use Rattle.listing.specs.MarkingKey.{loopLine, cueLine}
-use Rattle.listing.proofs.ColumnLaws.{loop-length, cue-length}
+use Rattle.lines.specs.Lines.{loopLine, cueLine}
+use Rattle.lines.proofs.ColumnLaws.{loop-length, cue-length}
 use Rattle.listing.proofs.LineLaws.{line-done, line-put, some, cues-gone, after-refused, after-end, after-loop, after-point}
 use Rattle.listing.proofs.listing.cue_line.Statement.{statement}
 use Rattle.listing.proofs.listing.cue_line.Tie as tie
 use Rattle.listing.proofs.listing.cue_line.Reads as reads
 use Rattle.listing.proofs.listing.cue_line.Lts as lts
 use Rattle.cue_reader.proofs.next_cue.Reads as next-cue-reads
-use Rattle.listing.proofs.lines.put_cue.Reads as put-cue-reads
-use Rattle.listing.proofs.lines.put_loop.Reads as put-loop-reads
+use Rattle.lines.proofs.lines.put_cue.Reads as put-cue-reads
+use Rattle.lines.proofs.lines.put_loop.Reads as put-loop-reads
 use Rattle.listing.proofs.listing.done.Reads as done-reads
 
 -- src/listing.rt:102:9

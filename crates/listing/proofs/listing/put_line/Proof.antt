@@ -6,8 +6,8 @@ use denote.Ref.{now}
 use borrow.Author.Needs.{needs}
 use Rattle.reader.proofs.RecordLaws.{shaped}
 use Rattle.listing.specs.declared.Stage.{Stage}
-use Rattle.listing.specs.MarkingKey.{stopLine, headLine}
-use Rattle.listing.proofs.ColumnLaws.{stop-length, head-length}
+use Rattle.lines.specs.Lines.{stopLine, headLine}
+use Rattle.lines.proofs.ColumnLaws.{stop-length, head-length}
 use Rattle.listing.proofs.ListingLaws.{stop-rest, head-rest, done-rest, blocks-past}
 use Rattle.listing.proofs.LineLaws.{line-done, line-put, stage-as, listing-as, cursor-as}
 use Rattle.listing.proofs.listing.put_line.Statement.{statement}
@@ -15,8 +15,8 @@ use Rattle.listing.proofs.listing.put_line.Tie as tie
 use Rattle.listing.proofs.listing.put_line.Reads as reads
 use Rattle.listing.proofs.listing.put_line.Lts as lts
 use Rattle.cue_reader.proofs.first_cursor.Reads as first-cursor-reads
-use Rattle.listing.proofs.lines.put_head.Reads as put-head-reads
-use Rattle.listing.proofs.lines.put_stop.Reads as put-stop-reads
+use Rattle.lines.proofs.lines.put_head.Reads as put-head-reads
+use Rattle.lines.proofs.lines.put_stop.Reads as put-stop-reads
 use Rattle.listing.proofs.listing.block_line.Reads as block-line-reads
 use Rattle.listing.proofs.listing.cue_line.Reads as cue-line-reads
 use Rattle.listing.proofs.listing.done.Reads as done-reads

@@ -1,0 +1,203 @@
+// Block read and addresses remaining (document 01, "Opening and reading").
+use layout::Channel;
+use layout::DspFormat;
+use layout::FrameContext;
+use layout::block::HeaderRead;
+use layout::block::read_header;
+use layout::channels::no_channel;
+use layout::fields::inside;
+use reader::HpsReader;
+use sizes::address_to_byte_up;
+use sizes::align;
+ghost use mathlib.Core.Path.{_≡_};
+ghost use lib.ListN.{getD};
+ghost use Rattle.layout.specs.Records.{noChannel};
+ghost use Rattle.reader.specs.OpeningAndReading.{Readable, blockRead, dataRemaining};
+ghost use Rattle.block_reader.specs.BlockAnswers.{dataPlaced, dataFound, noBlock, blockCall, blockData, remainingReply};
+
+pub enum BlockReply {
+    Refused(u32),
+    End,
+    Block,
+}
+
+// A block read's answer, zeros where no block is given.
+pub struct BlockCall {
+    pub reply: BlockReply,
+    pub rate: u32,
+    pub format: DspFormat,
+    pub coefficients: [i16; 16],
+    pub gain: u16,
+    pub length: u64,
+    pub context: FrameContext,
+    // The data is the slot from start to end.
+    pub start: usize,
+    pub end: usize,
+    // The position after the call.
+    pub position: usize,
+}
+
+// A block's length and context in a channel, and where its data lies.
+pub struct BlockData {
+    pub length: u64,
+    pub context: FrameContext,
+    pub start: usize,
+    pub end: usize,
+}
+
+pub enum DataRead {
+    Value(BlockData),
+    Short,
+}
+
+pub enum RemainingReply {
+    Refused(u32),
+    Addresses(u64),
+}
+
+fn place_data(
+    slot: usize,
+    start: usize,
+    bytes: usize,
+    length: u64,
+    context: FrameContext,
+) -> DataRead
+    ensures { λ d. ⌜ d ≡ dataPlaced slot start bytes length context ⌝ }
+{
+    if inside(slot, start, bytes) {
+        DataRead::Value(BlockData {
+            length,
+            context,
+            start,
+            end: start + bytes,
+        })
+    } else {
+        DataRead::Short
+    }
+}
+
+// The data in a channel of this format, of the block at an offset.
+fn find_data(s: &[u8], offset: u32, channel: usize, format: DspFormat) -> DataRead
+    ensures { λ d. ⌜ d ≡ dataFound (now (s .entry)) offset channel format ⌝ }
+{
+    let HeaderRead::Value(header) = read_header(s, offset) else {
+        return DataRead::Short;
+    };
+    let bytes = address_to_byte_up(header.end_address, format);
+    let length = header.end_address as u64 + 1;
+    let first = offset as usize + 32 + align(8 * header.cues);
+    if channel == 1 {
+        let right = header.right;
+        place_data(s.len(), first + align(bytes), bytes, length, right)
+    } else {
+        let left = header.left;
+        place_data(s.len(), first, bytes, length, left)
+    }
+}
+
+// A channel of the record, zeros where there is no such channel.
+fn channel_of(channels: [Channel; 2], channel: usize) -> Channel
+    ensures { λ c. ⌜ c ≡ getD channels channel noChannel ⌝ }
+{
+    if channel < 2 {
+        channels[channel]
+    } else {
+        no_channel()
+    }
+}
+
+fn no_block(reply: BlockReply, position: usize) -> BlockCall
+    ensures { λ q. ⌜ q ≡ noBlock reply position ⌝ }
+{
+    BlockCall {
+        reply,
+        rate: 0,
+        format: DspFormat::Adpcm,
+        coefficients: [0i16; 16],
+        gain: 0,
+        length: 0,
+        context: FrameContext {
+            predictor_and_scale: 0,
+            last: 0,
+            oldest: 0,
+        },
+        start: 0,
+        end: 0,
+        position,
+    }
+}
+
+// The block at a position, for a channel; the data itself is what block_data returns.
+pub fn read_block(s: &[u8], r: HpsReader, channel: usize, position: usize) -> BlockCall
+    requires { ⌜ Readable r ⌝ }
+    ensures { λ q. ⌜ q ≡ blockCall position (blockRead (now (s .entry)) r channel position) ⌝ }
+{
+    if r.count <= channel {
+        return no_block(BlockReply::Refused(6), position);
+    }
+    if r.blocks <= position {
+        return no_block(BlockReply::End, position);
+    }
+    let offset = r.offsets[position];
+    let channels = r.channels;
+    let c = channel_of(channels, channel);
+    let format = c.format;
+    let DataRead::Value(found) = find_data(s, offset, channel, format) else {
+        return no_block(BlockReply::Refused(1), position + 1);
+    };
+    let coefficients = c.coefficients;
+    let context = found.context;
+    BlockCall {
+        reply: BlockReply::Block,
+        rate: r.rate,
+        format,
+        coefficients,
+        gain: c.gain,
+        length: found.length,
+        context,
+        start: found.start,
+        end: found.end,
+        position: position + 1,
+    }
+}
+
+// The block's data as a part of the slot itself, empty where no block is given.
+pub fn block_data<'a>(s: &'a [u8], r: HpsReader, channel: usize, position: usize) -> &'a [u8]
+    requires { ⌜ Readable r ⌝ }
+    ensures { λ d. ⌜ now d ≡ blockData (blockRead (now (s .entry)) r channel position) ⌝ }
+{
+    if r.count <= channel {
+        return &s[..0];
+    }
+    if r.blocks <= position {
+        return &s[..0];
+    }
+    let offset = r.offsets[position];
+    let channels = r.channels;
+    let side = channel_of(channels, channel);
+    let format = side.format;
+    let DataRead::Value(found) = find_data(s, offset, channel, format) else {
+        return &s[..0];
+    };
+    let start = found.start;
+    let end = found.end;
+    &s[start..end]
+}
+
+// The sum of lengths over the blocks from a position on.
+pub fn data_remaining(s: &[u8], r: HpsReader, position: usize) -> RemainingReply
+    requires { ⌜ Readable r ⌝ }
+    ensures { λ q. ⌜ q ≡ remainingReply (dataRemaining (now (s .entry)) r position) ⌝ }
+{
+    let mut i = position;
+    let mut sum: u64 = 0;
+    while i < r.blocks {
+        let offset = r.offsets[i];
+        let HeaderRead::Value(header) = read_header(s, offset) else {
+            return RemainingReply::Refused(1);
+        };
+        sum += header.end_address as u64 + 1;
+        i += 1;
+    }
+    RemainingReply::Addresses(sum)
+}

@@ -1,0 +1,23 @@
+use Rattle.estimate.proofs.EstimateCodeLaws.{length-10, length-13, length-fine}
+use borrow.Author.Needs.{needs}
+use Rattle.estimate.proofs.length_due.Statement.{statement}
+use Rattle.estimate.proofs.length_due.Tie as tie
+
+returns : tie.Need-returns
+returns c = search (length-10, needs)
+
+adpcm-bytes-requires : tie.Need-adpcm-bytes-requires
+adpcm-bytes-requires c κs = search needs
+
+size-limit-requires : tie.Need-size-limit-requires
+size-limit-requires c κs = search needs
+
+returns-2 : tie.Need-returns-2
+returns-2 c = search (length-13, needs)
+
+returns-3 : tie.Need-returns-3
+returns-3 c = search (length-fine, needs)
+
+pub length-due-spec : {M : Type 1} → statement M
+length-due-spec =
+    tie.close (tie.spec returns adpcm-bytes-requires size-limit-requires returns-2 returns-3)

@@ -1,0 +1,67 @@
+// The estimate of a finished length (document 01, "Marking key and estimate").
+ghost use mathlib.Core.Path.{_≡_};
+ghost use mathlib.Core.List.{[], _∷_};
+ghost use Prim.Native.Nat.{_+_, _*_, _≤_};
+ghost use Rattle.layout.specs.Records.{P, adpcmBytes};
+ghost use Rattle.layout.specs.Refusals.{due, firstDue, tooShort, tooLarge};
+ghost use Rattle.writer.specs.Estimate.{estimateOf};
+ghost use Rattle.estimate.specs.EstimateAnswers.{estimateReply};
+use sizes::adpcm_bytes;
+use sizes::align;
+use sizes::size_limit;
+
+const BLOCK_LIMIT: usize = 512;
+
+pub enum EstimateReply {
+    Refused(u32),
+    Length(u64),
+}
+
+// The first number due by one length, 0 where none is.
+fn length_due(channels: usize, n: usize) -> u32
+    ensures { λ r. ⌜ r ≡ firstDue (due 10 (tooShort n) ∷ due 13 (tooLarge channels n) ∷ []) ⌝ }
+{
+    if n < 2 {
+        return 10;
+    }
+    if adpcm_bytes(n) > size_limit(channels) {
+        return 13;
+    }
+    0
+}
+
+// What a block with this length may take, without its cues.
+fn block_estimate(channels: usize, n: usize) -> u64
+    requires { ⌜ (channels ≤ 2) × (adpcmBytes n ≤ 65536) ⌝ }
+    ensures { λ r. ⌜ r ≡ 32 + channels * P (adpcmBytes n) ⌝ }
+{
+    let data = channels * align(adpcm_bytes(n));
+    32 + data as u64
+}
+
+// The sum cannot wrap: at most 512 lengths are added, none of which is too large.
+pub fn estimate(lengths: &[usize], channels: usize, p: u32) -> EstimateReply
+    ensures { λ r. ⌜ r ≡ estimateReply (estimateOf channels (now (lengths .entry)) p) ⌝ }
+{
+    if channels == 0 {
+        return EstimateReply::Refused(3);
+    }
+    if channels > 2 {
+        return EstimateReply::Refused(3);
+    }
+    if lengths.len() > BLOCK_LIMIT {
+        return EstimateReply::Refused(5);
+    }
+    let mut sum: u64 = 128;
+    let mut i: usize = 0;
+    while i < lengths.len() {
+        let n = lengths[i];
+        let r = length_due(channels, n);
+        if r != 0 {
+            return EstimateReply::Refused(r);
+        }
+        sum += block_estimate(channels, n);
+        i += 1;
+    }
+    EstimateReply::Length(sum + 32 * p as u64)
+}

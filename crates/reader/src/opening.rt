@@ -19,7 +19,7 @@ ghost use lib.Dec.{eqb};
 ghost use Rattle.layout.specs.Choice.{pick};
 ghost use Rattle.layout.specs.Records.{noChannel};
 ghost use Rattle.layout.specs.Refusals.{wrongCount};
-ghost use Rattle.reader.specs.OpeningAndReading.{Opened, opening};
+ghost use Rattle.reader.specs.OpeningAndReading.{Opened, opening, Readable};
 ghost use Rattle.reader.specs.ReaderAnswers.{noReader, openCall, magicNumber, channelNumber, inUse};
 
 pub enum OpenReply {
@@ -100,6 +100,7 @@ fn in_use(count: u32, left: Channel, right: Channel) -> [Channel; 2]
 
 pub fn open(s: &[u8]) -> OpenCall
     ensures { λ q. ⌜ q ≡ openCall (opening (now (s .entry))) ⌝ }
+    ensures { λ q. ⌜ Readable (q .reader) ⌝ }
 {
     if s.len() > SLOT_LIMIT {
         return refused(7);

@@ -19,74 +19,10 @@ use Rattle.reader.specs.declared.LoopStart.{LoopStart}
 use Rattle.reader.specs.declared.HpsReader.{HpsReader}
 use Rattle.reader.specs.OpeningAndReading.{Walked, refused, walked, walkFrom, Opened, onWalk, made, opening, Readable, offsetIn, offsetsFrom, dataRemaining}
 use Rattle.reader.specs.CuesReadBack.{looped, firstCursor}
-use Rattle.reader.specs.ReaderAnswers.{openCall}
-use Rattle.reader_laws.specs.ReaderLaws.{cueCount, Accepted, OpeningReadable, OpeningLaws}
+use Rattle.reader.proofs.OpenedLaws.{opened-parts, one-or-two}
+use Rattle.reader_laws.specs.ReaderLaws.{cueCount, Accepted, OpeningLaws}
 use Rattle.reader_laws.proofs.ChainLaws.{InSlot, all-at, Found, walk-found}
 use Rattle.reader_laws.proofs.CallLaws.{lengths-given, Listed, listed, nth-taken, nth-ended}
-
--- ---- Taking an opening apart
-
-module _ {r : HpsReader} where
-  not-opened : {A : Type 0} (n : ℕ) → Opened.refused n ≡ Opened.opened r → A
-  not-opened n e = absurd (let z : _≡_ {A = ℕ} 0 1 = cc in omega arith)
-
-  past-test : (b : Bool) (n : ℕ) {x : Opened} → pick b (Opened.refused n) x ≡ Opened.opened r → (b ≡ false) × (x ≡ Opened.opened r)
-  past-test true n e = not-opened n e
-  past-test false n e = (refl, e)
-
-  past-read : {A : Type 0} (q : Read A) {g : A → Opened} → on q Opened.refused g ≡ Opened.opened r → (a : A) × (q ≡ Read.value a) × (g a ≡ Opened.opened r)
-  past-read (Read.refused n) e = not-opened n e
-  past-read (Read.value a) e = (a, refl, e)
-
-  past-walk : (w : Walked) {g : List ℕ → LoopStart → Opened} → onWalk w g ≡ Opened.opened r → (os : List ℕ) × (start : LoopStart) × (w ≡ Walked.walked os start) × (g os start ≡ Opened.opened r)
-  past-walk (refused n) e = not-opened n e
-  past-walk (walked os start) e = (os, start, refl, e)
-
-  same-record : {x : HpsReader} → Opened.opened x ≡ Opened.opened r → x ≡ r
-  same-record e = cc
-
--- the record's parts, and the walk that gave them
-pub record Parts (s : List ℕ) (r : HpsReader) : Type 0 where
-  pub rate : ℕ
-  pub count : ℕ
-  pub left : Channel
-  pub right : Channel
-  pub offsets : List ℕ
-  pub start : LoopStart
-  pub right-count : wrongCount count ≡ false
-  pub walk : walkFrom 512 s [] 128 ≡ Walked.walked offsets start
-  pub is : made rate count left right offsets start ≡ r
-
-pub opened-parts : (s : List ℕ) (r : HpsReader) → opening s ≡ Opened.opened r → Parts s r
-unfolding opening
-opened-parts s r e =
-    let a = past-test (ltb slotLimit (length s)) 7 e in
-    let b = past-read (field s 8 (same (take 8 s) magic)) (a .1) in
-    let c = past-test (not (b .0)) 2 (b .2) in
-    let d = past-read (field s 12 (u32At s 8)) (c .1) in
-    let f = past-read (field s 16 (u32At s 12)) (d .2) in
-    let g = past-test (wrongCount (f .0)) 3 (f .2) in
-    let l = past-read (readChannel s 16) (g .1) in
-    let x = past-read (readChannel s 72) (l .2) in
-    let w = past-walk (walkFrom 512 s [] 128) {g = λ os start. Opened.opened (made (d .0) (f .0) (l .0) (x .0) os start)} (x .2) in
-    record {
-      rate = d .0;
-      count = f .0;
-      left = l .0;
-      right = x .0;
-      offsets = w .0;
-      start = w .1;
-      right-count = g .0;
-      walk = w .2;
-      is = same-record {x = made (d .0) (f .0) (l .0) (x .0) (w .0) (w .1)} (w .3);
-    }
-
--- ---- What holds of it
-
-one-or-two : (n : ℕ) → wrongCount n ≡ false → (n ≡ 1) ⊎ (n ≡ 2)
-one-or-two n e =
-    by-cases (eqb n 1) (λ t. inl (eqb-true n 1 t))
-    (λ t. inr (eqb-true n 2 (let k : eqb n 1 or eqb n 2 ≡ true = not-false _ e in rw t at k)))
 
 at-most-one : (d : Bool) → pick d 1 0 ≤ 1
 at-most-one true = omega arith
@@ -138,16 +74,3 @@ unfolding OpeningLaws
 accepted s r e =
     let p = opened-parts s r e in
     rw (← (p .is)) (accepted-made s (p .rate) (p .count) (p .left) (p .right) (p .offsets) (p .start) (p .right-count) (p .walk))
-
--- ---- Every record that opening returns
-
-readable-of : (o : Opened) → ((r : HpsReader) → o ≡ Opened.opened r → Readable r) → Readable (openCall o .reader)
-readable-of (Opened.refused n) f = record { channels = omega arith; blocks = omega arith }
-readable-of (Opened.opened r) f = f r refl
-
-pub readable : OpeningReadable
-unfolding OpeningReadable OpeningLaws
-readable s =
-    readable-of (opening s) (λ r e.
-    let a = accepted s r e in
-    record { channels = ⊎-elim (λ h. omega arith) (λ h. omega arith) (a .channels); blocks = a .few })

@@ -17,6 +17,7 @@ use Rattle.layout.proofs.Cases.{by-cases}
 use Rattle.reader.specs.declared.LoopStart.{LoopStart}
 use Rattle.reader.specs.OpeningAndReading.{firstAt, Walked, walkFrom}
 use Rattle.reader.proofs.HeaderLaws.{header-cases}
+use Rattle.reader.proofs.OpenedLaws.{not-walked}
 
 -- ---- Lists
 
@@ -69,9 +70,6 @@ pub record Found (s : List ℕ) (n : ℕ) (seen : List ℕ) (at : ℕ) (os : Lis
   pub first : getD os 0 0 ≡ getD (seen ++ (at ∷ [])) 0 0
   pub loop : (i : ℕ) → start ≡ LoopStart.Block i → i < length os
 
-not-walked : (k : ℕ) (os : List ℕ) (start : LoopStart) → Walked.refused k ≡ Walked.walked os start → ⊥
-not-walked k os start e = let z : _≡_ {A = ℕ} 0 1 = cc in omega arith
-
 same-walked : {os xs : List ℕ} {a b : LoopStart} → Walked.walked os a ≡ Walked.walked xs b → (os ≡ xs) × (a ≡ b)
 same-walked e = (cc, cc)
 
@@ -113,10 +111,10 @@ module _ (n : ℕ) (s seen : List ℕ) (at : ℕ) where
 pub walk-found : (n : ℕ) (s seen : List ℕ) (at : ℕ) (os : List ℕ) (start : LoopStart) → All (InSlot s) seen → Different seen → ((i : ℕ) → i < length seen → getD seen i 0 ≡ at → ⊥)
     → walkFrom n s seen at ≡ Walked.walked os start → Found s n seen at os start
 unfolding walkFrom
-walk-found zero s seen at os start a d f e = absurd (not-walked 5 os start e)
+walk-found zero s seen at os start a d f e = not-walked 5 os start e
 walk-found (suc n) s seen at os start a d f e =
     header-cases s at
-    (λ t. absurd (not-walked 1 os start (rw t at e)))
+    (λ t. not-walked 1 os start (rw t at e))
     (λ h t.
     let seen1 = seen ++ (at ∷ []) in
     let next = h .«next_offset» in

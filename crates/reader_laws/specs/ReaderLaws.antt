@@ -10,8 +10,7 @@ use Rattle.layout.specs.declared.BlockHeader.{BlockHeader}
 use Rattle.reader.specs.declared.LoopStart.{LoopStart}
 use Rattle.reader.specs.declared.HpsReader.{HpsReader}
 use Rattle.reader.specs.declared.CueIterator.{CueIterator}
-use Rattle.reader.specs.OpeningAndReading.{Opened, opening, Readable, Remaining, offsetIn, offsetsFrom, dataRemaining}
-use Rattle.reader.specs.ReaderAnswers.{openCall}
+use Rattle.reader.specs.OpeningAndReading.{Opened, opening, Remaining, offsetIn, offsetsFrom, dataRemaining}
 use Rattle.reader.specs.CuesReadBack.{CueAnswer, firstCursor, cueStep}
 
 -- The n-th cue call from a cursor, counted from 0.
@@ -39,10 +38,6 @@ pub record Accepted (s : List ℕ) (r : HpsReader) : Type 0 where
   pub cue : (n k : ℕ) → nthCue s r (firstCursor r) n ≡ CueAnswer.refused k → ⊥
   -- beside the cues there is at most one call for the Loop and one for the end
   pub end : (n : ℕ) × (n < cueCount s r + 2) × (nthCue s r (firstCursor r) n ≡ CueAnswer.ended)
-
--- Every record that opening returns, the zeros of a refused one too, meets the premise of the reading calls.
-unfoldable pub OpeningReadable : Type 0
-OpeningReadable = (s : List ℕ) → Readable (openCall (opening s) .reader)
 
 unfoldable pub OpeningLaws : Type 0
 OpeningLaws = (s : List ℕ) (r : HpsReader) → opening s ≡ Opened.opened r → Accepted s r

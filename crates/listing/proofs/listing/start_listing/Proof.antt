@@ -1,7 +1,7 @@
 use denote.Ref.{now}
 use borrow.Author.Needs.{needs}
 use Rattle.listing.proofs.ListingLaws.{start-long, start-refused, start-opened}
-use Rattle.listing.proofs.StartLaws.{call-readable, call-refused, call-opened}
+use Rattle.listing.proofs.StartLaws.{call-refused, call-opened}
 use Rattle.listing.proofs.listing.start_listing.Statement.{statement}
 use Rattle.listing.proofs.listing.start_listing.Tie as tie
 use Rattle.listing.proofs.listing.start_listing.Reads as reads
@@ -17,7 +17,7 @@ returns : tie.Need-returns
 returns c =
     let a = c .before .before .before .before .args in
     let e = c .before .before .«open» .ensures in
-    (start-long (now (a .s)) _ (c .if1 .taken), call-readable (now (a .s)) _ e)
+    (start-long (now (a .s)) _ (c .if1 .taken), e .1)
 
 -- src/listing.rt:56:28
 enum-known-reply : tie.Need-enum-known-reply
@@ -32,14 +32,14 @@ returns-2 : tie.Need-returns-2
 returns-2 c =
     let a = c .before .before .before .before .before .before .before .args in
     let e = c .before .before .before .before .before .«open» .ensures in
-    (start-refused (now (a .s)) _ (c .before .before .before .if1 .left) _ (call-refused (now (a .s)) _ e _ (c .before .reply .given .1)), call-readable (now (a .s)) _ e)
+    (start-refused (now (a .s)) _ (c .before .before .before .if1 .left) _ (call-refused (now (a .s)) _ (e .0) _ (c .before .reply .given .1)), e .1)
 
 -- src/listing.rt:44:1
 returns-3 : tie.Need-returns-3
 returns-3 c =
     let a = c .before .before .before .before .before .before .args in
     let e = c .before .before .before .before .«open» .ensures in
-    (start-opened (now (a .s)) _ (c .before .before .if1 .left) (call-opened (now (a .s)) _ e (c .enum-told .given .1)), call-readable (now (a .s)) _ e)
+    (start-opened (now (a .s)) _ (c .before .before .if1 .left) (call-opened (now (a .s)) _ (e .0) (c .enum-told .given .1)), e .1)
 
 pub start-listing-spec : {M : Type 1} → statement M
 start-listing-spec =

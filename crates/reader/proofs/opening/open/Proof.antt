@@ -7,6 +7,7 @@ use Rattle.reader.specs.declared.LoopStart.{LoopStart}
 use Rattle.reader.specs.OpeningAndReading.{Opened, opening}
 use Rattle.reader.specs.ReaderAnswers.{openCall}
 use Rattle.reader.proofs.OpenLaws.{atWalk, atRight, atLeft, atChannels, atCount, atRate, atMagic, too-long, not-long, refuses, on-value, on-refused, pick-true, pick-false, magic-right, magic-wrong, channel-read, channel-refused, opens-to, walk-stops}
+use Rattle.reader.proofs.OpenedLaws.{and-readable}
 use borrow.Author.Needs.{needs}
 use Rattle.reader.proofs.opening.open.Statement.{statement}
 use Rattle.reader.proofs.opening.open.Tie as tie
@@ -39,7 +40,7 @@ refused-requires : tie.Need-refused-requires
 refused-requires c κs = search needs
 
 returns : tie.Need-returns
-returns c = refuses _ 7 (c .refused .ensures) (too-long _ (c .before .if1 .taken))
+returns c = and-readable _ _ (refuses _ 7 (c .refused .ensures) (too-long _ (c .before .if1 .taken)))
 
 read-magic-requires : tie.Need-read-magic-requires
 read-magic-requires c κs = search needs
@@ -55,9 +56,10 @@ refused-requires-2 c κs = search needs
 
 returns-2 : tie.Need-returns-2
 returns-2 c =
+    and-readable _ _ (
     let s = now (c .before .before .before .before .before .before .args .s) in
     refuses s _ (c .refused2 .ensures)
-    (rw (c .before .magic-number .ensures) (not-long s (c .before .before .before .before .if1 .left) ∙ magic-wrong s 8 _ (atRate s) (c .before .before .before .read-magic .ensures) (λ e. let k = rw e at (c .before .before .match .keys2) in ⊎-elim (λ z. omega arith) (λ z. omega arith) k)))
+    (rw (c .before .magic-number .ensures) (not-long s (c .before .before .before .before .if1 .left) ∙ magic-wrong s 8 _ (atRate s) (c .before .before .before .read-magic .ensures) (λ e. let k = rw e at (c .before .before .match .keys2) in ⊎-elim (λ z. omega arith) (λ z. omega arith) k))))
 
 read-u32-requires : tie.Need-read-u32-requires
 read-u32-requires c κs = search needs
@@ -72,7 +74,7 @@ refused-requires-3 : tie.Need-refused-requires-3
 refused-requires-3 c κs = search needs
 
 returns-3 : tie.Need-returns-3
-returns-3 c = refuses _ 1 (c .refused3 .ensures) (after-magic (c .before .before .before) ∙ on-refused _ _ (short u32 (c .before .before .before .read-u32 .ensures) (c .before .enum-told2 .given .1) .is))
+returns-3 c = and-readable _ _ (refuses _ 1 (c .refused3 .ensures) (after-magic (c .before .before .before) ∙ on-refused _ _ (short u32 (c .before .before .before .read-u32 .ensures) (c .before .enum-told2 .given .1) .is)))
 
 read-u32-requires-2 : tie.Need-read-u32-requires-2
 read-u32-requires-2 c κs = search needs
@@ -87,7 +89,7 @@ refused-requires-4 : tie.Need-refused-requires-4
 refused-requires-4 c κs = search needs
 
 returns-4 : tie.Need-returns-4
-returns-4 c = refuses _ 1 (c .refused4 .ensures) (after-rate (c .before .before .before) ∙ on-refused _ _ (short u32 (c .before .before .before .read-u322 .ensures) (c .before .enum-told3 .given .1) .is))
+returns-4 c = and-readable _ _ (refuses _ 1 (c .refused4 .ensures) (after-rate (c .before .before .before) ∙ on-refused _ _ (short u32 (c .before .before .before .read-u322 .ensures) (c .before .enum-told3 .given .1) .is)))
 
 wrong-count-requires : tie.Need-wrong-count-requires
 wrong-count-requires c κs = search needs
@@ -96,7 +98,7 @@ refused-requires-5 : tie.Need-refused-requires-5
 refused-requires-5 c κs = search needs
 
 returns-5 : tie.Need-returns-5
-returns-5 c = refuses _ 3 (c .refused5 .ensures) (after-count (c .before .before) ∙ pick-true _ _ (sym (c .before .before .wrong-count .ensures) ∙ c .before .if2 .taken))
+returns-5 c = and-readable _ _ (refuses _ 3 (c .refused5 .ensures) (after-count (c .before .before) ∙ pick-true _ _ (sym (c .before .before .wrong-count .ensures) ∙ c .before .if2 .taken)))
 
 read-channel-requires : tie.Need-read-channel-requires
 read-channel-requires c κs = search needs
@@ -112,8 +114,9 @@ refused-requires-6 c κs = search needs
 
 returns-6 : tie.Need-returns-6
 returns-6 c =
+    and-readable _ _ (
     refuses _ _ (c .refused6 .ensures)
-    (rw (c .before .channel-number .ensures) (right-count (c .before .before .before) ∙ on-refused _ _ (channel-refused _ 16 (c .before .before .before .read-channel .ensures) (λ e. let k = rw e at (c .before .before .match4 .keys2) in ⊎-elim (λ z. omega arith) (λ z. omega arith) k))))
+    (rw (c .before .channel-number .ensures) (right-count (c .before .before .before) ∙ on-refused _ _ (channel-refused _ 16 (c .before .before .before .read-channel .ensures) (λ e. let k = rw e at (c .before .before .match4 .keys2) in ⊎-elim (λ z. omega arith) (λ z. omega arith) k)))))
 
 read-channel-requires-2 : tie.Need-read-channel-requires-2
 read-channel-requires-2 c κs = search needs
@@ -129,8 +132,9 @@ refused-requires-7 c κs = search needs
 
 returns-7 : tie.Need-returns-7
 returns-7 c =
+    and-readable _ _ (
     refuses _ _ (c .refused7 .ensures)
-    (rw (c .before .channel-number2 .ensures) (after-left (c .before .before .before) ∙ on-refused _ _ (channel-refused _ 72 (c .before .before .before .read-channel2 .ensures) (λ e. let k = rw e at (c .before .before .match5 .keys2) in ⊎-elim (λ z. omega arith) (λ z. omega arith) k))))
+    (rw (c .before .channel-number2 .ensures) (after-left (c .before .before .before) ∙ on-refused _ _ (channel-refused _ 72 (c .before .before .before .read-channel2 .ensures) (λ e. let k = rw e at (c .before .before .match5 .keys2) in ⊎-elim (λ z. omega arith) (λ z. omega arith) k)))))
 
 walk-blocks-requires : tie.Need-walk-blocks-requires
 walk-blocks-requires c κs = search needs
@@ -148,7 +152,7 @@ refused-requires-8 : tie.Need-refused-requires-8
 refused-requires-8 c κs = search needs
 
 returns-8 : tie.Need-returns-8
-returns-8 c = refuses _ _ (c .refused8 .ensures) (walk-stops _ _ _ _ _ (after-right (c .before .before .before .before)) (c .before .before .before .before .walk-blocks .ensures) _ (c .before .before .end2 .given .1))
+returns-8 c = and-readable _ _ (refuses _ _ (c .refused8 .ensures) (walk-stops _ _ _ _ _ (after-right (c .before .before .before .before)) (c .before .before .before .before .walk-blocks .ensures) _ (c .before .before .end2 .given .1)))
 
 in-use-requires : tie.Need-in-use-requires
 in-use-requires c κs = search needs
@@ -158,8 +162,9 @@ cast-t18 c = search needs
 
 returns-9 : tie.Need-returns-9
 returns-9 c =
+    and-readable _ _ (
     let opened = opens-to _ _ _ _ _ (after-right (c .before .before .before .before .before)) (c .before .before .before .before .before .walk-blocks .ensures) (c .in-use .ensures) in
-    ⊎-elim (λ w. rw (w .2) (opened LoopStart.None (w .1 .given .1))) (λ w. rw (w .3) (opened (LoopStart.Block (w .1 .given .0 .0)) (w .1 .given .1))) (c .before .before .before .before .match6 .came)
+    ⊎-elim (λ w. rw (w .2) (opened LoopStart.None (w .1 .given .1))) (λ w. rw (w .3) (opened (LoopStart.Block (w .1 .given .0 .0)) (w .1 .given .1))) (c .before .before .before .before .match6 .came))
 
 pub open-spec : {M : Type 1} → statement M
 open-spec =

@@ -2,12 +2,12 @@ use Prim.Native.Nat.{_-_, _≤_}
 use mathlib.Core.Path.{_≡_}
 use lib.ListN.{length}
 use borrow.Author.Needs.{needs}
-use Rattle.loads.proofs.side.Statement.{statement}
-use Rattle.loads.proofs.side.Tie as tie
-use Rattle.loads.proofs.side.Reads as reads
-use Rattle.loads.proofs.side.Lts as lts
-use Rattle.loads.proofs.half.Reads as half-reads
-use Rattle.loads.proofs.signed.Reads as signed-reads
+use Rattle.replay.proofs.loading.side.Statement.{statement}
+use Rattle.replay.proofs.loading.side.Tie as tie
+use Rattle.replay.proofs.loading.side.Reads as reads
+use Rattle.replay.proofs.loading.side.Lts as lts
+use Rattle.stored.proofs.half.Reads as half-reads
+use Rattle.stored.proofs.signed.Reads as signed-reads
 use Rattle.stored.proofs.number.Reads as number-reads
 
 abbrev Inv-loop : tie.InvT-loop

@@ -1,25 +1,19 @@
-// Loads streams through begin, cue, push and finish. Standard input has steps of 512 bytes each (tests/oracle/loadings makes them and says what lies where):
-// a call with the number that it must be refused with, or 0, or a part of the slot with the bytes that it must have. After each write the slot is opened: up to finish's
-// last write with 2 or 3, then as a stream. Prints the number of each step that went another way, then the counts.
+// A stream loaded through begin, cue, push and finish, with calls among them that are refused, held to recorded answers and bytes. After each write the slot is
+// opened: up to finish's last write with 2 or 3, then as a stream.
 use block_writer::push::push;
 use check::same;
 use header_writer::finish::finish;
-use io::print_decimal;
-use io::read_full;
-use io::write_all;
 use layout::FrameContext;
-use layout::fields::I16Read;
-use layout::fields::U16Read;
 use layout::fields::inside;
-use layout::fields::read_i16;
-use layout::fields::read_u16;
 use layout::puts::put_bytes;
-use libc::STDIN_FILENO;
-use libc::STDOUT_FILENO;
 use reader::opening::OpenReply;
 use reader::opening::open;
+use stored::half;
+use stored::long;
 use stored::number;
 use stored::part;
+use stored::signed;
+use stored::size;
 use writer::ChannelBlock;
 use writer::Cue;
 use writer::CueKind;
@@ -32,35 +26,17 @@ use writer::cues::cue;
 ghost use Prim.Native.Nat.{_<_};
 ghost use Rattle.writer.specs.Calls.{Good};
 
-const STEP: usize = 512;
+const STEPS: usize = 3000;
 
-const SLOT: usize = 4096;
+const SLOT: usize = 262144;
+
+// The longest block: header, 128 cues, data.
+const LENT: usize = 66592;
 
 // What a step leaves: the record, and whether all went as the step says.
 pub struct Left {
     pub writer: HpsWriter,
     pub good: bool,
-}
-
-fn half(s: &[u8], at: usize) -> u16 {
-    let U16Read::Value(n) = read_u16(s, at) else {
-        return 0;
-    };
-    n
-}
-
-fn signed(s: &[u8], at: usize) -> i16 {
-    let I16Read::Value(n) = read_i16(s, at) else {
-        return 0;
-    };
-    n
-}
-
-// A u64, high half first.
-fn long(s: &[u8], at: usize) -> u64
-    requires { ⌜ at < 512 ⌝ }
-{
-    number(s, at) as u64 * 4294967296 + number(s, at + 4) as u64
 }
 
 fn mode(n: u32) -> Looping {
@@ -152,22 +128,16 @@ fn carry_out(slot: &mut [u8], n: usize, place: Place, bytes: &[u8], opens: bool)
 }
 
 // Begin on the slot as it stands.
-fn load_begin(step: &[u8], n: usize, slot: &mut [u8], due: u32) -> Left
+fn load_begin(step: &[u8], n: usize, slot: &mut [u8], lent: &mut [u8], due: u32) -> Left
     ensures { λ q. ⌜ Good (q .writer) ⌝ }
 {
-    let mut lent = [7u8; 16];
-    let call = begin(
-        n,
-        number(step, 12) as usize,
-        mode(number(step, 16)),
-        &mut lent,
-    );
+    let call = begin(n, size(step, 12), mode(number(step, 16)), lent);
     let reply = call.reply;
     let place = call.place;
     let writer = call.writer;
     let mut good = is_reply(reply, due);
     if due == 0 {
-        good = good & carry_out(slot, n, place, part(&lent, 0, place.length), false);
+        good = good & carry_out(slot, n, place, part(lent, 0, place.length), false);
     }
     Left { writer, good }
 }
@@ -191,32 +161,39 @@ fn load_cue(step: &[u8], w: HpsWriter, due: u32) -> Left
     Left { writer, good }
 }
 
-fn load_push(step: &[u8], w: HpsWriter, n: usize, slot: &mut [u8], due: u32) -> Left
+fn load_push(
+    step: &[u8],
+    w: HpsWriter,
+    n: usize,
+    slot: &mut [u8],
+    lent: &mut [u8],
+    due: u32,
+) -> Left
     requires { ⌜ Good w ⌝ }
     ensures { λ q. ⌜ Good (q .writer) ⌝ }
 {
-    let mut lent = [7u8; 2048];
     let left = side(step, 32);
     let right = side(step, 80);
-    let left_data = part(step, 128, number(step, 20) as usize);
-    let right_data = part(step, 320, number(step, 24) as usize);
+    let many = size(step, 20);
+    let left_data = part(step, 128, many);
+    let right_data = part(step, 128 + many, size(step, 24));
     let last = number(step, 16) == 1;
     let call = push(
         w,
-        number(step, 12) as usize,
+        size(step, 12),
         left,
         right,
         left_data,
         right_data,
         last,
-        &mut lent,
+        lent,
     );
     let reply = call.reply;
     let place = call.place;
     let writer = call.writer;
     let mut good = is_reply(reply, due);
     if due == 0 {
-        good = good & carry_out(slot, n, place, part(&lent, 0, place.length), false);
+        good = good & carry_out(slot, n, place, part(lent, 0, place.length), false);
     }
     Left { writer, good }
 }
@@ -235,80 +212,103 @@ fn carry_header(slot: &mut [u8], n: usize, places: [Place; 3], lent: &[u8]) -> b
     carry_out(slot, n, mark, part(lent, 127, 1), true)
 }
 
-fn load_finish(step: &[u8], w: HpsWriter, n: usize, slot: &mut [u8], due: u32) -> Left
+fn load_finish(
+    step: &[u8],
+    w: HpsWriter,
+    n: usize,
+    slot: &mut [u8],
+    lent: &mut [u8],
+    due: u32,
+) -> Left
     requires { ⌜ Good w ⌝ }
     ensures { λ q. ⌜ Good (q .writer) ⌝ }
 {
-    let mut lent = [7u8; 128];
-    let call = finish(w, &mut lent);
+    let call = finish(w, lent);
     let reply = call.reply;
     let places = call.places;
     let writer = call.writer;
-    let mut good = is_finished(reply, due, number(step, 12) as usize);
+    let mut good = is_finished(reply, due, size(step, 12));
     if due == 0 {
-        good = good & carry_header(slot, n, places, &lent);
+        good = good & carry_header(slot, n, places, lent);
     }
     Left { writer, good }
 }
 
-fn run_step(step: &[u8], w: HpsWriter, slot: &mut [u8]) -> Left
+// A call that is lent this buffer.
+fn run_call(step: &[u8], w: HpsWriter, slot: &mut [u8], lent: &mut [u8]) -> Left
     requires { ⌜ Good w ⌝ }
     ensures { λ q. ⌜ Good (q .writer) ⌝ }
 {
     let due = number(step, 4);
-    let n = number(step, 8) as usize;
-    let bytes = part(step, 32, number(step, 12) as usize);
+    let n = size(step, 8);
+    match number(step, 0) {
+        2 => load_begin(step, n, slot, lent, due),
+        3 => load_cue(step, w, due),
+        4 => load_push(step, w, n, slot, lent, due),
+        5 => load_finish(step, w, n, slot, lent, due),
+        _ => Left {
+            writer: w,
+            good: false,
+        },
+    }
+}
+
+// A call that is lent so many bytes of this buffer.
+fn lend(step: &[u8], w: HpsWriter, slot: &mut [u8], lent: &mut [u8]) -> Left
+    requires { ⌜ Good w ⌝ }
+    ensures { λ q. ⌜ Good (q .writer) ⌝ }
+{
+    let most = size(step, 28);
+    if most <= lent.len() {
+        run_call(step, w, slot, &mut lent[..most])
+    } else {
+        run_call(step, w, slot, lent)
+    }
+}
+
+fn run_step(step: &[u8], w: HpsWriter, slot: &mut [u8], lent: &mut [u8]) -> Left
+    requires { ⌜ Good w ⌝ }
+    ensures { λ q. ⌜ Good (q .writer) ⌝ }
+{
+    let at = size(step, 8);
+    let bytes = part(step, 32, size(step, 12));
     match number(step, 0) {
         1 => {
-            put_bytes(slot, n, bytes);
+            put_bytes(slot, at, bytes);
             Left {
                 writer: w,
                 good: true,
             }
         }
-        2 => load_begin(step, n, slot, due),
-        3 => load_cue(step, w, due),
-        4 => load_push(step, w, n, slot, due),
-        5 => load_finish(step, w, n, slot, due),
-        _ => {
-            let good = same(part(slot, n, bytes.len()), bytes);
+        6 => {
+            let good = same(part(slot, at, bytes.len()), bytes);
             Left { writer: w, good }
         }
+        _ => lend(step, w, slot, lent),
     }
 }
 
-fn print_line(word: &[u8], n: usize) {
-    write_all(STDOUT_FILENO, word);
-    print_decimal(STDOUT_FILENO, n as u64);
-    write_all(STDOUT_FILENO, b"\n");
-}
-
-fn run(all: &[u8]) {
+// Steps one after the other, each with its length before it. Gives 0, or 1 and the number of the first that went another way; 1 where there is none.
+pub fn loading_case(body: &[u8]) -> usize {
     let mut slot = [0u8; SLOT];
-    let mut lent = [0u8; 1];
+    let mut lent = [7u8; LENT];
     let none = begin(0, 0, Looping::Auto, &mut lent);
     let mut w = none.writer;
+    let mut at: usize = 0;
     let mut steps: usize = 0;
-    let mut others: usize = 0;
-    while steps < 1000 {
-        let step = part(all, steps * STEP, STEP);
-        if step.len() == 0 {
-            break;
-        }
-        let left = run_step(step, w, &mut slot);
+    while steps < STEPS {
+        let n = size(body, at);
+        let step = part(body, at + 4, n);
+        let left = run_step(step, w, &mut slot, &mut lent);
         if !left.good {
-            print_line(b"other ", steps);
-            others += 1;
+            return 1 + steps;
         }
         w = left.writer;
+        at = at + 4 + n;
+        if at >= body.len() {
+            return 0;
+        }
         steps += 1;
     }
-    print_line(b"steps ", steps);
-    print_line(b"others ", others);
-}
-
-fn main() {
-    let mut input = [0u8; 500000];
-    let n = read_full(STDIN_FILENO, &mut input);
-    run(&input[..n]);
+    1 + steps
 }

@@ -4,10 +4,10 @@ use native.Mathlib.Omega.{arith}
 use lib.ListN.{length}
 use borrow.Author.Needs.{needs}
 use Rattle.listing.proofs.LineLaws.{filled-prefix}
-use Rattle.slots.proofs.is_listing.Statement.{statement}
-use Rattle.slots.proofs.is_listing.Tie as tie
-use Rattle.slots.proofs.is_listing.Reads as reads
-use Rattle.slots.proofs.is_listing.Lts as lts
+use Rattle.replay.proofs.slot.is_listing.Statement.{statement}
+use Rattle.replay.proofs.slot.is_listing.Tie as tie
+use Rattle.replay.proofs.slot.is_listing.Reads as reads
+use Rattle.replay.proofs.slot.is_listing.Lts as lts
 use Rattle.check.proofs.same.Reads as same-reads
 use Rattle.io.proofs.large_buffer.Reads as large-buffer-reads
 use Rattle.listing.proofs.listing.fill.Reads as fill-reads

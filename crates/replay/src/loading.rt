@@ -146,7 +146,7 @@ fn load_cue(step: &[u8], w: HpsWriter, due: u32) -> Left
     requires { ⌜ Good w ⌝ }
     ensures { λ q. ⌜ Good (q .writer) ⌝ }
 {
-    let kind = kind(number(step, 12), long(step, 24));
+    let kind = kind(number(step, 12), long(step, 36));
     let call = cue(
         w,
         Cue {

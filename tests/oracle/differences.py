@@ -1,8 +1,8 @@
 #!/usr/bin/env python3
 """Runs every entry of docs/DIFFERENCES.md again.
 
-usage: differences RELEASE [CHECKED [OLD]]
-       differences -i FOLDER
+usage: differences.py RELEASE [CHECKED [OLD]]
+       differences.py -i FOLDER
 
 RELEASE, CHECKED and OLD are the programs that build.sh names, OLD the one of its -n. A run is good if
 the Rust gives what entries.py records, and if that differs from document 01's answer, or equals it
@@ -60,6 +60,7 @@ def outcome(runs, good, left_out):
 
 
 def run_all(programs):
+    """Prints a line for each entry; gives how many were good and how many were not."""
     count = {"ok": 0, "FAILED": 0, "not run": 0}
     for entry in entries():
         runs = [run for run in entry.runs if run.build in programs]
@@ -69,8 +70,7 @@ def run_all(programs):
         words = [text for text, _ in results] + left_out + [entry.why_not] * bool(entry.why_not)
         print(result, entry.name, entry.title, "|", "; ".join(words), flush=True)
         count[result] += 1
-    print(f"{count['ok']} passed, {count['FAILED']} failed")
-    return count["FAILED"] == 0
+    return count["ok"], count["FAILED"]
 
 
 def write_inputs(folder):
@@ -92,10 +92,11 @@ def main(words):
         print(__doc__, file=sys.stderr)
         return 2
     programs = {build: Program(path) for build, path in zip(("release", "checked", "old"), words)}
-    good = run_all(programs)
+    good, bad = run_all(programs)
     for program in programs.values():
         program.close()
-    return 0 if good else 1
+    print(f"{good} passed, {bad} failed")
+    return bad > 0
 
 
 if __name__ == "__main__":

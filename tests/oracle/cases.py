@@ -101,17 +101,27 @@ def slot_case(oracle, slot, counts):
     return case(SLOT, body + reads(oracle.ask("read", slot), counts))
 
 
+def answer_at(made, number):
+    """What is asked and recorded in the answer of this number."""
+    at = 16 + struct.unpack_from(">I", made, 12)[0]
+    at += 4 + struct.unpack_from(">I", made, at)[0] + 120
+    for _ in range(number):
+        at += 88 + struct.unpack_from(">I", made, at + 84)[0]
+    channel, position, _, _, reply, _, _, number = struct.unpack_from(">IIIQIIII", made, at)
+    return channel, position, {0: f"a block of format {number}", END: "the end"}.get(reply, f"refusal {reply}")
+
+
 # ---- Loadings
 
 def loading_case(oracle, loading, counts):
-    made, file = steps(oracle, loading)
+    made, file, _ = steps(oracle, loading)
     for one in made:
         kind, due = struct.unpack_from(">II", one)
         if NAMES[kind] not in ("content", "bytes"):
             counts["calls"] += 1
             counts[f"{NAMES[kind]} {'accepted' if due == 0 else f'refused with {due}'}"] += 1
-    counts["files"] += loading.pushes == len(loading.blocks)
-    counts["bytes of files"] += len(file) * (loading.pushes == len(loading.blocks))
+    counts["finished files"] += file != b""
+    counts["bytes of finished files"] += len(file)
     return case(LOADING, b"".join(struct.pack(">I", len(one)) + one for one in made))
 
 

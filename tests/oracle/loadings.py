@@ -23,7 +23,6 @@ KINDS = ("point", "loop", "range")
 NAMES = ("", "content", "begin", "cue", "push", "finish", "bytes")
 CONTENT, BEGIN, CUE, PUSH, FINISH, BYTES = range(1, 7)
 LENT = 66592
-LONGEST = 200000  # file; the program's slot is longer
 CUE_LIMIT, BLOCK_LIMIT = 128, 512
 
 
@@ -124,6 +123,24 @@ def words(*numbers):
 
 def spread(kind, at, data):
     return step(kind, 0, at, (12, words(len(data))), (32, data))
+
+
+def bytes_steps(slot, ends):
+    """What the slot must hold, in parts so that a step's offset tells what is not the same."""
+    places = {0, 16, 72, 128, *ends[-1:], len(slot)}
+    for start, end in list(zip([128] + ends, ends))[:8]:
+        places |= {start, start + 32, end}
+    places = sorted(places)
+    return [spread(BYTES, at, slot[at:to]) for at, to in zip(places, places[1:])]
+
+
+def part_at(at, ends):
+    """The name of such a part."""
+    if at < 128:
+        return {0: "start of the header", 16: "left channel", 72: "right channel"}[at]
+    if at in ends[-1:]:
+        return "bytes beyond the file"
+    return "block header" if at in [128] + ends else "cues and data"
 
 
 def begin(due, slot, channels, mode, lent=LENT):
@@ -235,7 +252,7 @@ def earlier_content(loading, slot, file):
 def begin_steps(loading, slot, earlier):
     if refused_at(loading, "begin"):
         yield from (begin(3, slot, 0, 2), begin(3, slot, 3, 2), begin(7, 191, 1, 2), begin(7, 16777217, 1, 2), begin(14, slot, loading.channels, 2, lent=0))
-        yield spread(BYTES, 0, earlier)
+        yield from bytes_steps(earlier, [])
     yield begin(0, slot, loading.channels, loading.mode)
 
 
@@ -263,7 +280,7 @@ def end_steps(loading, slot, file):
 
 
 def steps(oracle, loading):
-    """Every step, and the Rust's file."""
+    """Every step; the finished file, if there is one; where the blocks end."""
     file = whole_file(oracle, loading)
     ends = block_ends(file, len(loading.blocks))
     slot = len(file) + loading.spare
@@ -275,14 +292,15 @@ def steps(oracle, loading):
     made += push_steps(oracle, loading, slot, ends)
     if loading.pushes == len(loading.blocks):
         made += end_steps(loading, slot, file)
-        return made + [spread(BYTES, 0, file + earlier[len(file):])], file
+        return made + bytes_steps(file + earlier[len(file):], ends), file, ends
     if loading.pushes == BLOCK_LIMIT:
         left, right = loading.blocks[BLOCK_LIMIT]
         made += [push(25, slot, loading.channels, left, right, True), push(29, slot, 3 - loading.channels, left, right, True)]
     # No finish: a header of earlier content but for byte 15, then the Rust's blocks up to the last pushed.
-    end = ends[loading.pushes - 1] if loading.pushes else 128
-    made.append(finish(28 if loading.pushes else 27, slot))
-    return made + [spread(BYTES, 0, earlier[:15] + b"\0" + earlier[16:128] + file[128:end] + earlier[end:])], file
+    ends = ends[:loading.pushes]
+    end = ([128] + ends)[-1]
+    made.append(finish(28 if ends else 27, slot))
+    return made + bytes_steps(earlier[:15] + b"\0" + earlier[16:128] + file[128:end] + earlier[end:], ends), b"", ends
 
 
 # ---- Generated, and a list

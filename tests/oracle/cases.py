@@ -59,7 +59,7 @@ def block_answer(line, left, given, context):
 
 
 def reads(lines, counts):
-    """What is recorded of the Rust's `read`."""
+    """What is recorded of the Rust's `read`: the channels, and the answers."""
     channels, given, made, sums = [], [], [], {}
     left, context = 0, None
     for line in lines:
@@ -84,10 +84,11 @@ def reads(lines, counts):
     for c in range(len(channels), 3):
         made.append(answer(c, 0, sums[0], 6, 0))
     counts["addresses remaining"] += len(made)
-    return b"".join(channels).ljust(120, b"\0") + b"".join(made)
+    return b"".join(channels).ljust(120, b"\0"), made
 
 
-def slot_case(oracle, slot, counts):
+def slot_case(oracle, slot, counts, most=5000):
+    """The answers in the middle are left out where there are more than so many."""
     listing = oracle.ask("key", slot)
     text = "".join(line + "\n" for line in listing).encode()
     stored = slot.rstrip(b"\0")
@@ -98,7 +99,10 @@ def slot_case(oracle, slot, counts):
     counts["open"] += 1
     counts["blocks listed"] += sum(line.startswith("BLCK") for line in listing)
     counts["cue calls"] += 1 + sum(line.startswith(("LOOP", "CUEP")) for line in listing)
-    return case(SLOT, body + reads(oracle.ask("read", slot), counts))
+    channels, answers = reads(oracle.ask("read", slot), counts)
+    if len(answers) > most:
+        answers[most // 2:-most // 2] = []
+    return case(SLOT, body + channels + b"".join(answers))
 
 
 def answer_at(made, number):

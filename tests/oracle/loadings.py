@@ -10,8 +10,8 @@ A step is a call or a part of the slot; numbers are u32, big-endian. 0: 1 conten
   content, bytes  12 how many, 32 the bytes
   begin           12 channels, 16 mode (0 Disabled, 1 Enabled, 2 Auto)
   cue             12 kind (0 Point, 1 Loop, 2 Range), 16 start (u64), 32 name, 36 the range's length (u64)
-  push            12 channels, 16 last, 20 and 24 how many bytes of data, 32 and 80 the sides: rate, length, 16 coefficients, gain and
-                  context; 128 the left data, then the right
+  push            12 channels, 16 last, 20 and 24 how many bytes of data, 32 the left side: rate, length, 16 coefficients, gain and context (48 bytes),
+                  and the data; then the right side, if there are two channels
   finish          12 the finished length
 """
 import random
@@ -152,8 +152,10 @@ def cue(due, slot, start, kind, length, name):
 
 
 def push(due, slot, channels, left, right, last, lent=LENT):
-    sides = left.packed() + right.packed()
-    return step(PUSH, due, slot, (12, words(channels, last, len(left.data), len(right.data))), (32, sides + left.data + right.data), lent=lent)
+    sides = left.packed() + left.data
+    if channels == 2:
+        sides += right.packed() + right.data
+    return step(PUSH, due, slot, (12, words(channels, last, len(left.data), len(right.data) * (channels == 2))), (32, sides), lent=lent)
 
 
 def finish(due, slot, length=0, lent=LENT):
@@ -365,10 +367,9 @@ def some_loading():
 
 
 def listed():
-    """A full table of cues, and 512 blocks with and without the last mark."""
+    """A full table of cues, and 512 blocks without the last mark."""
     points = tuple((i // 2, i % 2 * 2, i % 2, i) for i in range(CUE_LIMIT))
     refused = (("begin", "begin"), ("cues", "cues"), ("end", "end"), (0, "no room"), (0, "short buffer"), (1, "no room"), (1, "short buffer"))
     for channels in (1, 2):
         yield Loading(channels, 2, points, some_blocks((16, 100)), 2, 0, "noise", refused)
-    yield Loading(1, 1, (), some_blocks([2] * 512), 512, 0, "zeros", refused)
-    yield Loading(1, 0, (), some_blocks([2] * 513), 512, 0, "zeros", refused)
+    yield Loading(1, 0, (), some_blocks([2] * 513), 512, 0, "zeros")

@@ -57,7 +57,7 @@ fn kind(n: u32, length: u64) -> CueKind {
 
 // What a push says of a channel.
 fn side(s: &[u8], at: usize) -> ChannelBlock
-    requires { ⌜ at < 512 ⌝ }
+    requires { ⌜ at < 8589934592 ⌝ }
 {
     let mut coefficients = [0i16; 16];
     let mut i: usize = 0;
@@ -172,10 +172,10 @@ fn load_push(
     requires { ⌜ Good w ⌝ }
     ensures { λ q. ⌜ Good (q .writer) ⌝ }
 {
-    let left = side(step, 32);
-    let right = side(step, 80);
     let many = size(step, 20);
-    let left_data = part(step, 128, many);
+    let left = side(step, 32);
+    let left_data = part(step, 80, many);
+    let right = side(step, 80 + many);
     let right_data = part(step, 128 + many, size(step, 24));
     let last = number(step, 16) == 1;
     let call = push(

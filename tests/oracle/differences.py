@@ -13,12 +13,15 @@ no difference without them is listed as not run, and not counted.
 first run of D2, D9-1.load the description of the first run of D9.
 """
 import os
+import re
 import subprocess
 import sys
 
 sys.dont_write_bytecode = True
 from entries import entries
 from serving import Program
+
+PAGE = os.path.join(os.path.dirname(os.path.abspath(__file__)), "..", "..", "docs", "DIFFERENCES.md")
 
 
 def in_one_gibibyte(path, slot):
@@ -59,6 +62,13 @@ def outcome(runs, good, left_out):
     return "not run" if not runs or left_out and not shown else "ok"
 
 
+def unmatched():
+    """The names that stand in docs/DIFFERENCES.md alone, or in entries.py alone."""
+    with open(PAGE, encoding="utf-8") as page:
+        told_there = set(re.findall(r"^(?:\*\*|\| )([DS]\d+a?)[. ]", page.read(), re.MULTILINE))
+    return sorted(told_there ^ {entry.name for entry in entries()})
+
+
 def run_all(programs):
     """Prints a line for each entry; gives how many were good and how many were not."""
     count = {"ok": 0, "FAILED": 0, "not run": 0}
@@ -70,6 +80,9 @@ def run_all(programs):
         words = [text for text, _ in results] + left_out + [entry.why_not] * bool(entry.why_not)
         print(result, entry.name, entry.title, "|", "; ".join(words), flush=True)
         count[result] += 1
+    for name in unmatched():
+        print("FAILED", name, "stands in docs/DIFFERENCES.md or in entries.py, but not in both")
+        count["FAILED"] += 1
     return count["ok"], count["FAILED"]
 
 

@@ -337,7 +337,7 @@ def some_lengths(channels, large):
         most = 131072 if channels == 1 else 65536
         return [random.choice((most, most - 1, random.randrange(2, most))) for _ in range(random.choice((1, 2)))]
     if large:
-        return [random.choice((2, 3, 16, 17, 40)) for _ in range(random.choice((100, 511, 512)))]
+        return [random.choice((2, 3, 16, 17, 40)) for _ in range(random.choice((100, BLOCK_LIMIT, BLOCK_LIMIT + 1)))]
     return [random.choice((2, 3, 15, 16, 17, 32, 2 + random.randrange(378), 2 + random.randrange(60))) for _ in range(random.choice((1, 1, 2, 3, 4, 6)))]
 
 
@@ -359,7 +359,7 @@ def some_loading():
     lengths = some_lengths(channels, large)
     many = random.choices((0, 1, 2, 3, 5, 9, 40, CUE_LIMIT), (40, 20, 20, 20, 20, 20, 2, 1))[0]
     cues = some_cues(sum(samples(n) for n in lengths), many)
-    pushes = len(lengths) if large or random.random() < 0.9 else random.randrange(len(lengths))
+    pushes = min(len(lengths), BLOCK_LIMIT) if large or random.random() < 0.9 else random.randrange(len(lengths))
     spare = random.choice((0, 1, random.randrange(500), random.randrange(500)))
     refused = () if large else some_refused(channels, pushes)
     earlier = "zeros" if large else random.choice(("noise", "file", "zeros"))

@@ -5,7 +5,7 @@ use layout::fields::read_u32;
 ghost use mathlib.Core.Path.{_≡_};
 ghost use Rattle.stored.specs.Stored.{partAt, numberAt};
 
-// n bytes from at on, none where they are not there.
+// n bytes from at on.
 pub fn part<'a>(s: &'a [u8], at: usize, n: usize) -> &'a [u8]
     ensures { λ d. ⌜ now d ≡ partAt (now (s .entry)) at n ⌝ }
 {
@@ -16,7 +16,7 @@ pub fn part<'a>(s: &'a [u8], at: usize, n: usize) -> &'a [u8]
     &s[..0]
 }
 
-// A big-endian u32, 0 where it is not there.
+// A big-endian u32.
 pub fn number(s: &[u8], at: usize) -> u32
     ensures { λ n. ⌜ n ≡ numberAt (now (s .entry)) at ⌝ }
 {

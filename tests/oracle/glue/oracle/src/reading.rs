@@ -82,8 +82,8 @@ pub fn key(slot: &[u8], limited: bool) -> String {
     text
 }
 
-/// The channels, then for each channel the addresses remaining and the block read at every position
-/// up to the end; with `decode` also the samples of ADPCM channels.
+/// The channels, then for each channel the addresses remaining, the context in the block's header and
+/// the block read at every position up to the end; with `decode` also the samples of ADPCM channels.
 pub fn read(slot: &[u8], decode: bool) -> String {
     let hps = match open(slot, true) {
         Ok(hps) => hps,
@@ -109,6 +109,9 @@ pub fn read(slot: &[u8], decode: bool) -> String {
         let mut reader = hps.channel_reader(c);
         for position in 0.. {
             text += &format!("LEFT {c} {position} {}\n", reader.data_remaining().unwrap());
+            if let Some(block) = hps.blocks().nth(position) {
+                text += &format!("CTXT {c} {position} {}\n", context(&block.channel_contexts[c]));
+            }
             match reader.read_samples() {
                 Ok(Some(block)) => text += &format!("READ {c} {position} {}\n", shown(block)),
                 Err(e) => text += &format!("READ {c} {position} STOP {}\n", refusal(&e)),

@@ -1,0 +1,51 @@
+// The estimate, held to recorded answers.
+use crate::values::size;
+use estimate::EstimateReply;
+use estimate::estimate;
+use stored::number;
+
+// The estimate of 1, 512 or 513 blocks of this length.
+fn reply(blocks: u32, length: usize, channels: usize, p: u32) -> EstimateReply {
+    match blocks {
+        1 => {
+            let lengths = [length; 1];
+            estimate(&lengths, channels, p)
+        }
+        512 => {
+            let lengths = [length; 512];
+            estimate(&lengths, channels, p)
+        }
+        _ => {
+            let lengths = [length; 513];
+            estimate(&lengths, channels, p)
+        }
+    }
+}
+
+// 0: the number of the refusal, or 0; 4 blocks, 8 length, 12 channels, 16 p; 20 the estimate, high half first.
+pub fn estimate_case(body: &[u8]) -> usize {
+    let due = number(body, 0);
+    let reply = reply(
+        number(body, 4),
+        size(body, 8),
+        size(body, 12),
+        number(body, 16),
+    );
+    match reply {
+        EstimateReply::Refused(n) => {
+            if n != due {
+                return 1;
+            }
+            0
+        }
+        EstimateReply::Length(n) => {
+            if due != 0 {
+                return 1;
+            }
+            if n != number(body, 20) as u64 * 4294967296 + number(body, 24) as u64 {
+                return 1;
+            }
+            0
+        }
+    }
+}

@@ -1,0 +1,314 @@
+// A stream loaded through begin, cue, push and finish, with calls among them that are refused, held to recorded answers and bytes. After each write the slot is
+// opened: up to finish's last write with 2 or 3, then as a stream.
+use crate::values::half;
+use crate::values::long;
+use crate::values::signed;
+use crate::values::size;
+use block_writer::push::push;
+use check::same;
+use header_writer::finish::finish;
+use layout::FrameContext;
+use layout::fields::inside;
+use puts::put_bytes;
+use reader::opening::OpenReply;
+use reader::opening::open;
+use stored::number;
+use stored::part;
+use writer::ChannelBlock;
+use writer::Cue;
+use writer::CueKind;
+use writer::HpsWriter;
+use writer::Looping;
+use writer::Place;
+use writer::Reply;
+use writer::begin;
+use writer::cues::cue;
+ghost use Prim.Native.Nat.{_<_};
+ghost use Rattle.writer.specs.Calls.{Good};
+
+const STEPS: usize = 3000;
+
+const SLOT: usize = 262144;
+
+// The longest block: header, 128 cues, data.
+const LENT: usize = 66592;
+
+// What a step leaves: the record, and whether all went as the step says.
+pub struct Left {
+    pub writer: HpsWriter,
+    pub good: bool,
+}
+
+fn mode(n: u32) -> Looping {
+    match n {
+        0 => Looping::Disabled,
+        1 => Looping::Enabled,
+        _ => Looping::Auto,
+    }
+}
+
+fn kind(n: u32, length: u64) -> CueKind {
+    match n {
+        0 => CueKind::Point,
+        1 => CueKind::Loop,
+        _ => CueKind::Range(length),
+    }
+}
+
+// What a push says of a channel.
+fn side(s: &[u8], at: usize) -> ChannelBlock
+    requires { ⌜ at < 8589934592 ⌝ }
+{
+    let mut coefficients = [0i16; 16];
+    let mut i: usize = 0;
+    while i < 16 {
+        coefficients[i] = signed(s, at + 8 + 2 * i);
+        i += 1;
+    }
+    let context = FrameContext {
+        predictor_and_scale: half(s, at + 42),
+        last: signed(s, at + 44),
+        oldest: signed(s, at + 46),
+    };
+    ChannelBlock {
+        rate: number(s, at),
+        length: number(s, at + 4) as usize,
+        coefficients,
+        gain: half(s, at + 40),
+        context,
+    }
+}
+
+// Whether a call answered with this number, or with 0 if it was accepted.
+fn is_reply(reply: Reply, due: u32) -> bool {
+    match reply {
+        Reply::Refused(n) => n == due,
+        Reply::Accepted(_) => due == 0,
+    }
+}
+
+// The same of finish, which gives the finished length.
+fn is_finished(reply: Reply, due: u32, length: usize) -> bool {
+    match reply {
+        Reply::Refused(n) => n == due,
+        Reply::Accepted(n) => {
+            if due != 0 {
+                return false;
+            }
+            n == length
+        }
+    }
+}
+
+// Whether the slot opens; with 2 or 3 where it must not.
+fn opens_as(s: &[u8], opens: bool) -> bool {
+    let opened = open(s);
+    let reply = opened.reply;
+    match reply {
+        OpenReply::Opened => opens,
+        OpenReply::Refused(n) => {
+            if opens {
+                return false;
+            }
+            if n == 2 {
+                return true;
+            }
+            n == 3
+        }
+    }
+}
+
+// The server carries a write out, and opens the slot.
+fn carry_out(slot: &mut [u8], n: usize, place: Place, bytes: &[u8], opens: bool) -> bool {
+    if !inside(n, place.offset, place.length) {
+        return false;
+    }
+    put_bytes(slot, place.offset, bytes);
+    opens_as(part(slot, 0, n), opens)
+}
+
+// Begin on the slot as it stands.
+fn load_begin(step: &[u8], n: usize, slot: &mut [u8], lent: &mut [u8], due: u32) -> Left
+    ensures { λ q. ⌜ Good (q .writer) ⌝ }
+{
+    let call = begin(n, size(step, 12), mode(number(step, 16)), lent);
+    let reply = call.reply;
+    let place = call.place;
+    let writer = call.writer;
+    let mut good = is_reply(reply, due);
+    if due == 0 {
+        good = good & carry_out(slot, n, place, part(lent, 0, place.length), false);
+    }
+    Left { writer, good }
+}
+
+fn load_cue(step: &[u8], w: HpsWriter, due: u32) -> Left
+    requires { ⌜ Good w ⌝ }
+    ensures { λ q. ⌜ Good (q .writer) ⌝ }
+{
+    let kind = kind(number(step, 12), long(step, 36));
+    let call = cue(
+        w,
+        Cue {
+            start: long(step, 16),
+            kind,
+            name: number(step, 32),
+        },
+    );
+    let reply = call.reply;
+    let writer = call.writer;
+    let good = is_reply(reply, due);
+    Left { writer, good }
+}
+
+fn load_push(
+    step: &[u8],
+    w: HpsWriter,
+    n: usize,
+    slot: &mut [u8],
+    lent: &mut [u8],
+    due: u32,
+) -> Left
+    requires { ⌜ Good w ⌝ }
+    ensures { λ q. ⌜ Good (q .writer) ⌝ }
+{
+    let many = size(step, 20);
+    let left = side(step, 32);
+    let left_data = part(step, 80, many);
+    let right = side(step, 80 + many);
+    let right_data = part(step, 128 + many, size(step, 24));
+    let last = number(step, 16) == 1;
+    let call = push(
+        w,
+        size(step, 12),
+        left,
+        right,
+        left_data,
+        right_data,
+        last,
+        lent,
+    );
+    let reply = call.reply;
+    let place = call.place;
+    let writer = call.writer;
+    let mut good = is_reply(reply, due);
+    if due == 0 {
+        good = good & carry_out(slot, n, place, part(lent, 0, place.length), false);
+    }
+    Left { writer, good }
+}
+
+// Finish's three writes: their bytes lie in the lent buffer one after the other.
+fn carry_header(slot: &mut [u8], n: usize, places: [Place; 3], lent: &[u8]) -> bool {
+    let start = places[0];
+    let rest = places[1];
+    let mark = places[2];
+    if !carry_out(slot, n, start, part(lent, 0, 15), false) {
+        return false;
+    }
+    if !carry_out(slot, n, rest, part(lent, 15, 112), false) {
+        return false;
+    }
+    carry_out(slot, n, mark, part(lent, 127, 1), true)
+}
+
+fn load_finish(
+    step: &[u8],
+    w: HpsWriter,
+    n: usize,
+    slot: &mut [u8],
+    lent: &mut [u8],
+    due: u32,
+) -> Left
+    requires { ⌜ Good w ⌝ }
+    ensures { λ q. ⌜ Good (q .writer) ⌝ }
+{
+    let call = finish(w, lent);
+    let reply = call.reply;
+    let places = call.places;
+    let writer = call.writer;
+    let mut good = is_finished(reply, due, size(step, 12));
+    if due == 0 {
+        good = good & carry_header(slot, n, places, lent);
+    }
+    Left { writer, good }
+}
+
+// A call that is lent this buffer.
+fn run_call(step: &[u8], w: HpsWriter, slot: &mut [u8], lent: &mut [u8]) -> Left
+    requires { ⌜ Good w ⌝ }
+    ensures { λ q. ⌜ Good (q .writer) ⌝ }
+{
+    let due = number(step, 4);
+    let n = size(step, 8);
+    match number(step, 0) {
+        2 => load_begin(step, n, slot, lent, due),
+        3 => load_cue(step, w, due),
+        4 => load_push(step, w, n, slot, lent, due),
+        5 => load_finish(step, w, n, slot, lent, due),
+        _ => Left {
+            writer: w,
+            good: false,
+        },
+    }
+}
+
+// A call that is lent so many bytes of this buffer.
+fn lend(step: &[u8], w: HpsWriter, slot: &mut [u8], lent: &mut [u8]) -> Left
+    requires { ⌜ Good w ⌝ }
+    ensures { λ q. ⌜ Good (q .writer) ⌝ }
+{
+    let most = size(step, 28);
+    if most <= lent.len() {
+        run_call(step, w, slot, &mut lent[..most])
+    } else {
+        run_call(step, w, slot, lent)
+    }
+}
+
+fn run_step(step: &[u8], w: HpsWriter, slot: &mut [u8], lent: &mut [u8]) -> Left
+    requires { ⌜ Good w ⌝ }
+    ensures { λ q. ⌜ Good (q .writer) ⌝ }
+{
+    let at = size(step, 8);
+    let bytes = part(step, 32, size(step, 12));
+    match number(step, 0) {
+        1 => {
+            put_bytes(slot, at, bytes);
+            Left {
+                writer: w,
+                good: true,
+            }
+        }
+        6 => {
+            let good = same(part(slot, at, bytes.len()), bytes);
+            Left { writer: w, good }
+        }
+        _ => lend(step, w, slot, lent),
+    }
+}
+
+// Steps one after the other, each with its length before it. Gives 0, or 1 and the number of the first that went another way; 1 where there is none.
+pub fn loading_case(body: &[u8]) -> usize {
+    let mut slot = [0u8; SLOT];
+    let mut lent = [7u8; LENT];
+    let none = begin(0, 0, Looping::Auto, &mut lent);
+    let mut w = none.writer;
+    let mut at: usize = 0;
+    let mut steps: usize = 0;
+    while steps < STEPS {
+        let n = size(body, at);
+        let step = part(body, at + 4, n);
+        let left = run_step(step, w, &mut slot, &mut lent);
+        if !left.good {
+            return 1 + steps;
+        }
+        w = left.writer;
+        at = at + 4 + n;
+        if at >= body.len() {
+            return 0;
+        }
+        steps += 1;
+    }
+    1 + steps
+}

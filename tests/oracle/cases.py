@@ -1,0 +1,158 @@
+"""Cases of the program `replay`: a slot, a loading or the arguments of an estimate, with the answers that they must have.
+
+A case has a kind (1 slot, 2 loading, 3 estimate), a length and so many bytes; numbers are u32, big-endian, two of them for a u64.
+  slot      the slot's length; how many bytes follow, the others being 0, and these; the listing's length and the listing; then, if the slot opens, its two
+            channels (60 bytes each: looping, format, loop, end and current address, coefficients, gain, context), and for each channel and position asked for
+            these two, the answer (76 bytes: of the addresses remaining the refusal or 0, and the addresses; of the block read the refusal, 0 for a block or
+            4,294,967,295 for the end, by how much the position moved on, rate, format, length, coefficients, gain, context), the data's length and the data
+  loading   steps, each with its length before it (loadings.py says what they hold)
+  estimate  the refusal or 0; how many blocks (1, 512 or 513), the length of each, channels, p; the estimate
+
+The answers are the Rust's, and document 01's where docs/DIFFERENCES.md has a difference: D2 and D3 are in the oracle's `key`; D5: a channel not below
+the count is refused with 6; D7: the Rust gives no coefficients, gain and context for a PCM block, so they are those of its channel and of its block's
+header; D9a: positions past the end. In mono the second channel is zeros. The estimate is not in the Rust: its answers are by document 01's formula.
+"""
+import re
+import struct
+import subprocess
+from collections import Counter
+
+from inputs import END
+from loadings import NAMES, steps
+
+SLOT, LOADING, ESTIMATE = 1, 2, 3
+MOST = 590000  # of what the program takes
+
+
+def case(kind, body):
+    return struct.pack(">II", kind, len(body)) + body
+
+
+# ---- Slots
+
+def numbers(text):
+    return [int(n) for n in text.split(",")]
+
+
+def info(coefficients, gain, context):
+    return struct.pack(">16hHHhh", *coefficients, gain, *context)
+
+
+def channel_record(line):
+    """A channel as recorded, and its coefficients and gain."""
+    m = re.fullmatch(r"CHAN \d looping=(\d) format=(\d+) loop=(\d+) end=(\d+) cur=(\d+) coef=(\S+) gain=(\d+) ctx=(\S+)", line)
+    coefficients, gain = numbers(m[6]), int(m[7])
+    return struct.pack(">5I", *map(int, m.group(1, 2, 3, 4, 5))) + info(coefficients, gain, numbers(m[8])), (coefficients, gain)
+
+
+def answer(channel, position, left, reply, moved, rate=0, number=0, length=0, given=((0,) * 16, 0), context=(0, 0, 0), data=b""):
+    start = struct.pack(">IIIQIIIIQ", channel, position, 0, left, reply, moved, rate, number, length)
+    return start + info(*given, context) + struct.pack(">I", len(data)) + data
+
+
+def block_answer(line, left, given, context):
+    m = re.fullmatch(r"READ (\d) (\d+) ch=1 rate=(\d+) format=(\d+) len=(\d+)(?: coef=(\S+) gain=(\d+) ctx=(\S+))? data=(\S+)", line)
+    data = b"" if m[9] == "-" else bytes.fromhex(m[9])
+    if m[6]:
+        given, context = (numbers(m[6]), int(m[7])), numbers(m[8])
+    return answer(*map(int, m.group(1, 2)), left, 0, 1, *map(int, m.group(3, 4, 5)), given, context, data)
+
+
+def reads(lines, counts):
+    """What is recorded of the Rust's `read`: the channels, and the answers."""
+    channels, given, made, sums = [], [], [], {}
+    left, context = 0, None
+    for line in lines:
+        word, *rest = line.split()
+        if word == "CHAN":
+            made_channel, carried = channel_record(line)
+            channels.append(made_channel)
+            given.append(carried)
+        elif word == "LEFT":
+            left = sums[int(rest[1])] = int(rest[2])
+        elif word == "CTXT":
+            context = numbers(rest[2])
+        elif word == "DONE":
+            c, position = map(int, rest)
+            made += [answer(c, position, 0, END, 0), answer(c, position + 2, 0, END, 0)]
+        elif rest[2] == "STOP":
+            made.append(answer(int(rest[0]), int(rest[1]), left, int(rest[3]), 1))
+            counts[f"block reads refused with {rest[3]}"] += 1
+        else:
+            made.append(block_answer(line, left, given[int(rest[0])], context))
+            counts["blocks read"] += 1
+    for c in range(len(channels), 3):
+        made.append(answer(c, 0, sums[0], 6, 0))
+    counts["addresses remaining"] += len(made)
+    return b"".join(channels).ljust(120, b"\0"), made
+
+
+def slot_case(oracle, slot, counts, most=5000):
+    """The answers in the middle are left out where there are more than so many."""
+    listing = oracle.ask("key", slot)
+    text = "".join(line + "\n" for line in listing).encode()
+    stored = slot.rstrip(b"\0")
+    body = struct.pack(">II", len(slot), len(stored)) + stored + struct.pack(">I", len(text)) + text
+    if listing[0].startswith("STOP"):
+        counts[f"refused with {listing[0].split()[1]}"] += 1
+        return case(SLOT, body)
+    counts["open"] += 1
+    counts["blocks listed"] += sum(line.startswith("BLCK") for line in listing)
+    counts["cue calls"] += 1 + sum(line.startswith(("LOOP", "CUEP")) for line in listing)
+    channels, answers = reads(oracle.ask("read", slot), counts)
+    if len(answers) > most:
+        answers[most // 2:-most // 2] = []
+    return case(SLOT, body + channels + b"".join(answers))
+
+
+def answer_at(made, number):
+    """What is asked and recorded in the answer of this number."""
+    at = 16 + struct.unpack_from(">I", made, 12)[0]
+    at += 4 + struct.unpack_from(">I", made, at)[0] + 120
+    for _ in range(number):
+        at += 88 + struct.unpack_from(">I", made, at + 84)[0]
+    channel, position, _, _, reply, _, _, number = struct.unpack_from(">IIIQIIII", made, at)
+    return channel, position, {0: f"a block of format {number}", END: "the end"}.get(reply, f"refusal {reply}")
+
+
+# ---- Loadings
+
+def loading_case(oracle, loading, counts):
+    made, file, _ = steps(oracle, loading)
+    for one in made:
+        kind, due = struct.unpack_from(">II", one)
+        if NAMES[kind] not in ("content", "bytes"):
+            counts["calls"] += 1
+            counts[f"{NAMES[kind]} {'accepted' if due == 0 else f'refused with {due}'}"] += 1
+    counts["finished files"] += file != b""
+    counts["bytes of finished files"] += len(file)
+    return case(LOADING, b"".join(struct.pack(">I", len(one)) + one for one in made))
+
+
+# ---- The estimate
+
+def estimate_case(blocks, length, channels, p, due):
+    size = (length + 1) // 2
+    told = 128 + blocks * (32 + channels * ((size + 31) // 32 * 32)) + 32 * p if due == 0 else 0
+    return case(ESTIMATE, struct.pack(">5IQ", due, blocks, length, channels, p, told))
+
+
+def estimates():
+    """At its limits. Order: 3, 5, then per length 10, 13."""
+    for blocks, length, channels, p, due in (
+            (1, 2, 1, 0, 0), (1, 16, 2, 1, 0), (512, 2, 1, 4294967295, 0), (512, 65536, 2, 4294967295, 0), (512, 131072, 1, 128, 0), (513, 2, 1, 0, 5),
+            (513, 0, 1, 0, 5), (513, 2, 0, 0, 3), (513, 2, 3, 0, 3), (1, 0, 1, 0, 10), (1, 1, 2, 0, 10), (1, 131072, 1, 0, 0), (1, 131073, 1, 0, 13),
+            (1, 65536, 2, 0, 0), (1, 65537, 2, 0, 13), (512, 4294967295, 1, 4294967295, 13)):
+        yield estimate_case(blocks, length, channels, p, due)
+
+
+# ---- The program
+
+def others(program, cases):
+    """The numbers of the cases in which our calls say something else, and the places there."""
+    done = subprocess.run([program], input=b"".join(cases), capture_output=True)
+    *lines, last = done.stdout.decode().split("\n")[:-1] or [""]
+    found = {int(words[2]): int(words[4]) for words in map(str.split, lines)}
+    if last != f"{len(cases)} cases, {len(found)} other" or done.returncode:
+        raise SystemExit(f"{program} ended with {done.returncode} and {last!r} on {len(cases)} cases")
+    return found

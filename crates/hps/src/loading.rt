@@ -1,0 +1,148 @@
+// The loading calls and the estimate. A call gives 0, a refusal's number, NO_RECORD or NO_KIND; only with 0 are the lent bytes and the numbers that it gives set.
+use crate::NO_KIND;
+use crate::NO_RECORD;
+use crate::loader::LOADER_SIZE;
+use crate::loader::mode_of;
+use crate::loader::put_numbers;
+use crate::loader::put_writer;
+use crate::loader::writer_in;
+use crate::sides::kind_of;
+use crate::sides::side_in;
+use block_writer::push::push;
+use header_writer::finish::finish;
+use writer::Cue;
+use writer::Reply;
+use writer::begin;
+use writer::cues::cue;
+use writer::estimate::EstimateReply;
+use writer::estimate::estimate;
+
+// Begin: keeps the writer's record, and gives the write's offset and length. The mode is 0 Disabled, 1 Enabled, 2 Auto.
+#[no_mangle]
+pub extern "C" fn hps_begin(
+    slot: usize,
+    channels: usize,
+    mode: u32,
+    kept: &mut [u8],
+    lent: &mut [u8],
+    offset: &mut usize,
+    length: &mut usize,
+) -> u32 {
+    if mode > 2 {
+        return NO_KIND;
+    }
+    if kept.len() < LOADER_SIZE {
+        return 14;
+    }
+    let call = begin(slot, channels, mode_of(mode), lent);
+    let reply = call.reply;
+    let place = call.place;
+    let w = call.writer;
+    match reply {
+        Reply::Refused(number) => number,
+        Reply::Accepted(_) => {
+            put_writer(kept, w);
+            *offset = place.offset;
+            *length = place.length;
+            0
+        }
+    }
+}
+
+// Cue: the kind is 0 a point, 1 a loop, 2 a range of this length.
+#[no_mangle]
+pub extern "C" fn hps_cue(kept: &mut [u8], start: u64, kind: u32, range: u64, name: u32) -> u32 {
+    if kind > 2 {
+        return NO_KIND;
+    }
+    let h = writer_in(kept);
+    if !h.found {
+        return NO_RECORD;
+    }
+    let w = h.writer;
+    let kind = kind_of(kind, range);
+    let call = cue(w, Cue { start, kind, name });
+    let reply = call.reply;
+    let after = call.writer;
+    match reply {
+        Reply::Refused(number) => number,
+        Reply::Accepted(_) => {
+            put_writer(kept, after);
+            0
+        }
+    }
+}
+
+// Push: a side has 48 bytes: rate, length, 16 coefficients, gain, context. In mono the right side counts for nothing.
+#[no_mangle]
+pub extern "C" fn hps_push(
+    kept: &mut [u8],
+    channels: usize,
+    left: &[u8],
+    left_data: &[u8],
+    right: &[u8],
+    right_data: &[u8],
+    last: bool,
+    lent: &mut [u8],
+    offset: &mut usize,
+    length: &mut usize,
+) -> u32 {
+    let h = writer_in(kept);
+    if !h.found {
+        return NO_RECORD;
+    }
+    let w = h.writer;
+    let l = side_in(left, 0);
+    let r = side_in(right, 0);
+    let call = push(w, channels, l, r, left_data, right_data, last, lent);
+    let reply = call.reply;
+    let place = call.place;
+    let after = call.writer;
+    match reply {
+        Reply::Refused(number) => number,
+        Reply::Accepted(_) => {
+            put_numbers(kept, after);
+            *offset = place.offset;
+            *length = place.length;
+            0
+        }
+    }
+}
+
+// Finish: the lent buffer's first 128 bytes are those of the writes to bytes 0-14, 16-127 and 15, in this order. Gives the finished length.
+#[no_mangle]
+pub extern "C" fn hps_finish(kept: &mut [u8], lent: &mut [u8], finished: &mut usize) -> u32 {
+    let h = writer_in(kept);
+    if !h.found {
+        return NO_RECORD;
+    }
+    let w = h.writer;
+    let call = finish(w, lent);
+    let reply = call.reply;
+    let after = call.writer;
+    match reply {
+        Reply::Refused(number) => number,
+        Reply::Accepted(n) => {
+            put_numbers(kept, after);
+            *finished = n;
+            0
+        }
+    }
+}
+
+// The estimate of a finished length.
+#[no_mangle]
+pub extern "C" fn hps_estimate(
+    lengths: &[usize],
+    channels: usize,
+    points: u32,
+    length: &mut u64,
+) -> u32 {
+    match estimate(lengths, channels, points) {
+        EstimateReply::Refused(number) => number,
+        EstimateReply::Length(n) => {
+            *length = n;
+            0
+        }
+    }
+}

@@ -4,6 +4,7 @@ mod ours;
 mod rust;
 
 use inputs::{Stream, noise, slot};
+use std::cell::RefCell;
 use std::hint::black_box;
 use std::time::Instant;
 
@@ -115,20 +116,23 @@ fn main() {
     }
     if wanted(&only, "load") {
         let data = noise(LOADED);
-        let mut lent = vec![0; 65_536 + 2048];
-        let (mut a, mut b, mut c, mut d) = (vec![0; SLOT], vec![0; SLOT], vec![0; SLOT], vec![0; SLOT]);
-        rust::load(rust::Source::new(&data, LOAD_BLOCK, false), &mut a);
-        let finished = ours::load(&data, LOAD_BLOCK, &mut b, &mut lent);
-        assert!(a[..finished] == b[..finished], "the loaded slots differ");
+        // One slot and one lent buffer for all sides.
+        let (lent, kept) = (&RefCell::new(vec![0; 65_536 + 2048]), &RefCell::new(vec![0; SLOT]));
+        rust::load(rust::Source::new(&data, LOAD_BLOCK, false), &mut kept.borrow_mut());
+        let theirs = kept.replace(vec![0; SLOT]);
+        let finished = ours::load(&data, LOAD_BLOCK, &mut kept.borrow_mut(), &mut lent.borrow_mut());
+        assert!(theirs[..finished] == kept.borrow()[..finished], "the loaded slots differ");
         let sides: Vec<(_, Side)> = vec![
-            ("rust", Box::new(|| rust::load(rust::Source::new(&data, LOAD_BLOCK, false), &mut a))),
-            ("ours", Box::new(|| { black_box(ours::load(&data, LOAD_BLOCK, &mut b, &mut lent)); })),
-            ("copy", Box::new(|| black_box(&mut c)[..LOADED].copy_from_slice(black_box(&data)))),
+            ("rust", Box::new(|| rust::load(rust::Source::new(&data, LOAD_BLOCK, false), &mut kept.borrow_mut()))),
+            ("ours", Box::new(|| {
+                black_box(ours::load(&data, LOAD_BLOCK, &mut kept.borrow_mut(), &mut lent.borrow_mut()));
+            })),
+            ("copy", Box::new(|| black_box(kept.borrow_mut())[..LOADED].copy_from_slice(black_box(&data)))),
             ("copy twice", Box::new(|| {
-                let mut kept = [0; LOAD_BLOCK];
-                for (to, from) in d.chunks_mut(LOAD_BLOCK).zip(data.chunks(LOAD_BLOCK)) {
-                    black_box(&mut kept)[..from.len()].copy_from_slice(from);
-                    to[..from.len()].copy_from_slice(&black_box(&kept)[..from.len()]);
+                let (slot, lent) = (&mut kept.borrow_mut(), &mut lent.borrow_mut());
+                for (to, from) in slot.chunks_mut(LOAD_BLOCK).zip(data.chunks(LOAD_BLOCK)) {
+                    black_box(&mut lent[..from.len()]).copy_from_slice(from);
+                    to[..from.len()].copy_from_slice(&black_box(&lent)[..from.len()]);
                 }
             })),
         ];

@@ -63,6 +63,11 @@ impl Opened {
         Opened { bytes }
     }
 
+    /// The record's bytes, to be kept elsewhere.
+    pub fn bytes(&self) -> &[u8; OPENED_SIZE] {
+        &self.bytes
+    }
+
     pub fn rate(&self) -> u32 {
         u32_at(&self.bytes, 8)
     }
@@ -252,6 +257,11 @@ impl Loader {
     /// The record that these bytes spell, whoever wrote them; what they do not spell is refused by the calls.
     pub fn from_bytes(bytes: [u8; LOADER_SIZE]) -> Loader {
         Loader { bytes }
+    }
+
+    /// The record's bytes, to be kept elsewhere.
+    pub fn bytes(&self) -> &[u8; LOADER_SIZE] {
+        &self.bytes
     }
 
     pub fn cue(&mut self, start: u64, kind: Kind, name: u32) -> Result<(), u32> {

@@ -22,9 +22,8 @@ const CUES: [(&str, Stream); 2] = [
     ("cues 130560", Stream { blocks: 512, data: 32, cues: 255 }),
 ];
 const LISTING: (&str, Stream) = ("listing", Stream { blocks: 512, data: 32, cues: 1 });
-/// The bytes that are loaded, in blocks of this length; with their headers they fill 16 MiB.
-const LOADED: usize = 512 * 32_704;
-const LOAD_BLOCK: usize = 32_704;
+/// 512 blocks of so many bytes: with their headers they fill 16 MiB; and what a push costs beside its data.
+const LOAD: [(&str, usize); 2] = [("load 16 MiB", 32_704), ("load small", 32)];
 const SLOT: usize = 16_777_216;
 
 /// What one side runs again and again.
@@ -44,8 +43,8 @@ fn time(run: &mut Side, batch: usize) -> f64 {
     start.elapsed().as_nanos() as f64 / batch as f64
 }
 
-/// The middle time of each side; the sides take turns.
-fn middle_times(sides: &mut [(&'static str, Side)]) -> Vec<f64> {
+/// The middle and the least time of each side; the sides take turns.
+fn middle_times(sides: &mut [(&'static str, Side)]) -> Vec<(f64, f64)> {
     let batches: Vec<usize> = sides.iter_mut().map(|(_, run)| (2e6 / time(run, 3)).clamp(1.0, 1e5) as usize).collect();
     let mut times = vec![Vec::new(); sides.len()];
     for _ in 0..TIMES {
@@ -54,7 +53,7 @@ fn middle_times(sides: &mut [(&'static str, Side)]) -> Vec<f64> {
         }
     }
     times.iter_mut().for_each(|t| t.sort_by(f64::total_cmp));
-    times.iter().map(|t| t[TIMES / 2]).collect()
+    times.iter().map(|t| (t[TIMES / 2], t[0])).collect()
 }
 
 /// Runs the measurements, or one side of one of them so many times.
@@ -69,7 +68,7 @@ fn run(mut measured: Measured, only: &Option<(String, String, usize)>) {
     let times = middle_times(&mut measured.sides);
     let ours = times[measured.sides.iter().position(|(s, _)| *s == "ours").unwrap()];
     for ((side, _), t) in measured.sides.iter().zip(&times) {
-        println!("{:<12} {side:<12} {:>12.0} ns {:>8.2}", measured.what, t, t / ours);
+        println!("{:<12} {side:<12} {:>12.0} ns {:>8.2} {:>12.0} ns {:>8.2}", measured.what, t.0, t.0 / ours.0, t.1, t.1 / ours.1);
     }
 }
 
@@ -114,28 +113,34 @@ fn main() {
             vec![("rust", Box::new(|| { black_box(rust::listing(&s)); })), ("ours", Box::new(|| { black_box(ours::listing(&s, &mut out)); }))];
         run(Measured { what: LISTING.0.into(), sides }, &only);
     }
-    if wanted(&only, "load") {
-        let data = noise(LOADED);
+    for (what, block) in LOAD.iter().filter(|(w, _)| wanted(&only, w)) {
+        let data = noise(512 * block);
         // One slot and one lent buffer for all sides.
         let (lent, kept) = (&RefCell::new(vec![0; 65_536 + 2048]), &RefCell::new(vec![0; SLOT]));
-        rust::load(rust::Source::new(&data, LOAD_BLOCK, false), &mut kept.borrow_mut());
+        rust::load(rust::Source::new(&data, *block), &mut kept.borrow_mut());
         let theirs = kept.replace(vec![0; SLOT]);
-        let finished = ours::load(&data, LOAD_BLOCK, &mut kept.borrow_mut(), &mut lent.borrow_mut());
+        let finished = ours::load(&data, *block, &mut kept.borrow_mut(), &mut lent.borrow_mut());
         assert!(theirs[..finished] == kept.borrow()[..finished], "the loaded slots differ");
+        kept.borrow_mut().fill(0);
+        ours::load_in_place(&data, *block, &mut kept.borrow_mut());
+        assert!(theirs[..finished] == kept.borrow()[..finished], "the slot loaded in place differs");
         let sides: Vec<(_, Side)> = vec![
-            ("rust", Box::new(|| rust::load(rust::Source::new(&data, LOAD_BLOCK, false), &mut kept.borrow_mut()))),
+            ("rust", Box::new(|| rust::load(rust::Source::new(&data, *block), &mut kept.borrow_mut()))),
             ("ours", Box::new(|| {
-                black_box(ours::load(&data, LOAD_BLOCK, &mut kept.borrow_mut(), &mut lent.borrow_mut()));
+                black_box(ours::load(&data, *block, &mut kept.borrow_mut(), &mut lent.borrow_mut()));
             })),
-            ("copy", Box::new(|| black_box(kept.borrow_mut())[..LOADED].copy_from_slice(black_box(&data)))),
+            ("in place", Box::new(|| {
+                black_box(ours::load_in_place(&data, *block, &mut kept.borrow_mut()));
+            })),
+            ("copy", Box::new(|| black_box(kept.borrow_mut())[..data.len()].copy_from_slice(black_box(&data)))),
             ("copy twice", Box::new(|| {
                 let (slot, lent) = (&mut kept.borrow_mut(), &mut lent.borrow_mut());
-                for (to, from) in slot.chunks_mut(LOAD_BLOCK).zip(data.chunks(LOAD_BLOCK)) {
+                for (to, from) in slot.chunks_mut(*block).zip(data.chunks(*block)) {
                     black_box(&mut lent[..from.len()]).copy_from_slice(from);
                     to[..from.len()].copy_from_slice(&black_box(&lent)[..from.len()]);
                 }
             })),
         ];
-        run(Measured { what: "load".into(), sides }, &only);
+        run(Measured { what: what.to_string(), sides }, &only);
     }
 }

@@ -49,17 +49,19 @@ fn carry_out(slot: &mut [u8], place: Place, bytes: &[u8]) {
     slot[place.offset..place.offset + place.length].copy_from_slice(&bytes[..place.length]);
 }
 
-/// Loads the stream into the slot: each write's bytes are handed out in `lent` and then carried out.
-pub fn load(data: &[u8], block: usize, slot: &mut [u8], lent: &mut [u8]) -> usize {
+fn side(part: &[u8]) -> Side {
+    Side { rate: RATE, length: 2 * part.len() as u32, coefficients: COEFFICIENTS, ..Side::default() }
+}
+
+/// Begin, and the loop cue.
+fn begin(slot: &mut [u8], lent: &mut [u8]) -> Loader {
     let (mut loader, place) = Loader::begin(slot.len(), 1, Looping::Auto, lent).unwrap();
     carry_out(slot, place, lent);
     loader.cue(0, Kind::Loop, 0).unwrap();
-    let count = data.len().div_ceil(block);
-    for (i, part) in data.chunks(block).enumerate() {
-        let side = Side { rate: RATE, length: 2 * part.len() as u32, coefficients: COEFFICIENTS, ..Side::default() };
-        let place = loader.push(&[(side, part)], i + 1 == count, lent).unwrap();
-        carry_out(slot, place, lent);
-    }
+    loader
+}
+
+fn finish(mut loader: Loader, slot: &mut [u8], lent: &mut [u8]) -> usize {
     let finished = loader.finish(lent).unwrap();
     let mut from = 0;
     for place in FINISH {
@@ -67,4 +69,28 @@ pub fn load(data: &[u8], block: usize, slot: &mut [u8], lent: &mut [u8]) -> usiz
         from += place.length;
     }
     finished
+}
+
+/// Loads the stream into the slot: each write's bytes are handed out in `lent` and then carried out.
+pub fn load(data: &[u8], block: usize, slot: &mut [u8], lent: &mut [u8]) -> usize {
+    let mut loader = begin(slot, lent);
+    let count = data.len().div_ceil(block);
+    for (i, part) in data.chunks(block).enumerate() {
+        let place = loader.push(&[(side(part), part)], i + 1 == count, lent).unwrap();
+        carry_out(slot, place, lent);
+    }
+    finish(loader, slot, lent)
+}
+
+/// The same with the slot's own bytes lent to push, which are then where they belong.
+pub fn load_in_place(data: &[u8], block: usize, slot: &mut [u8]) -> usize {
+    let mut lent = [0; 128];
+    let mut loader = begin(slot, &mut lent);
+    let count = data.len().div_ceil(block);
+    let mut next = 128;
+    for (i, part) in data.chunks(block).enumerate() {
+        let place = loader.push(&[(side(part), part)], i + 1 == count, &mut slot[next..]).unwrap();
+        next = place.offset + place.length;
+    }
+    finish(loader, slot, &mut lent)
 }

@@ -63,19 +63,19 @@ pub fn listing(slot: &[u8]) -> String {
     text
 }
 
-/// Blocks that HpsWriter pulls: parts of one lent buffer, or owned beforehand so that they need not be copied to be kept.
+/// Blocks that HpsWriter pulls: parts of one lent buffer, as the other side has them.
 pub struct Source<'a> {
     blocks: std::vec::IntoIter<Samples<'a, GcAdpcm>>,
     tag: SourceTag,
 }
 
 impl<'a> Source<'a> {
-    pub fn new(data: &'a [u8], block: usize, owned: bool) -> Self {
+    pub fn new(data: &'a [u8], block: usize) -> Self {
         let samples = |part: &'a [u8]| Samples {
             channels: 1,
             rate: RATE,
             len: 2 * part.len(),
-            data: if owned { part.to_vec().into() } else { part.into() },
+            data: part.into(),
             params: Info {
                 coefficients: COEFFICIENTS,
                 gain: 0,

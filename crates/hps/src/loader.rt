@@ -7,6 +7,8 @@ use crate::sides::put_cues;
 use crate::sides::put_side;
 use crate::sides::side_in;
 use layout::puts::put_u32;
+use writer::ChannelBlock;
+use writer::Cue;
 use writer::HpsWriter;
 use writer::LoopAt;
 use writer::Looping;
@@ -54,22 +56,13 @@ const CUES_AT: usize = 184;
 // No block of the stream is the loop block.
 const NOWHERE: u64 = 0xFFFF_FFFF_FFFF_FFFF;
 
-// What lent bytes hold; where they hold no record, the one of a refused begin.
-pub struct HeldWriter {
-    pub found: bool,
-    pub writer: HpsWriter,
-}
-
-fn not_held() -> HeldWriter
-    ensures { λ h. ⌜ Good (h .writer) ⌝ }
+// The record of a refused begin, of a slot of no bytes: it stands for bytes that hold no record.
+fn no_writer() -> HpsWriter
+    ensures { λ w. ⌜ Good w ⌝ }
 {
     let mut lent = [0u8; 1];
     let none = begin(0, 0, Looping::Auto, &mut lent);
-    let writer = none.writer;
-    HeldWriter {
-        found: false,
-        writer,
-    }
+    none.writer
 }
 
 // 0 Disabled, 1 Enabled, any other number Auto.
@@ -178,12 +171,12 @@ fn marks_good(blocks: usize, last: bool, finished: bool) -> bool
     true
 }
 
-// The record that lent bytes hold. Whatever they are, the record meets the premise of the loading calls.
-pub(crate) fn writer_in(kept: &[u8]) -> HeldWriter
-    ensures { λ h. ⌜ Good (h .writer) ⌝ }
+// The record that lent bytes hold, that of a refused begin where they hold none. Whatever they are, it meets the premise of the loading calls.
+pub(crate) fn writer_in(kept: &[u8]) -> HpsWriter
+    ensures { λ w. ⌜ Good w ⌝ }
 {
     if kept.len() < LOADER_SIZE {
-        return not_held();
+        return no_writer();
     }
     let slot = long(kept, SLOT_AT) as usize;
     let offset = long(kept, OFFSET_AT) as usize;
@@ -191,28 +184,28 @@ pub(crate) fn writer_in(kept: &[u8]) -> HeldWriter
     let next = long(kept, NEXT_AT) as usize;
     let id = word(kept, ID_AT);
     if !places_good(slot, offset, count, next, id) {
-        return not_held();
+        return no_writer();
     }
     let blocks = long(kept, BLOCKS_AT) as usize;
     let base = long(kept, BASE_AT);
     let sum = long(kept, SUM_AT);
     if !sums_good(blocks, base, sum) {
-        return not_held();
+        return no_writer();
     }
     let last = word(kept, LAST_AT) != 0;
     let finished = word(kept, FINISHED_AT) != 0;
     if !marks_good(blocks, last, finished) {
-        return not_held();
+        return no_writer();
     }
     let loopat = loop_of(long(kept, LOOP_AT));
     if !loops_within(loopat, offset) {
-        return not_held();
+        return no_writer();
     }
     let mode = mode_of(word(kept, MODE_AT));
     let cues = cues_in(kept, CUES_AT, count);
     let left = side_in(kept, LEFT_AT);
     let right = side_in(kept, RIGHT_AT);
-    let writer = HpsWriter {
+    HpsWriter {
         slot,
         channels: long(kept, CHANNELS_AT) as usize,
         mode,
@@ -229,57 +222,63 @@ pub(crate) fn writer_in(kept: &[u8]) -> HeldWriter
         right,
         last,
         finished,
-    };
-    HeldWriter {
-        found: true,
-        writer,
     }
 }
 
-fn put_table_numbers(kept: &mut [u8], w: HpsWriter) {
-    let mode = w.mode;
-    put_long(kept, SLOT_AT, w.slot as u64);
-    put_long(kept, CHANNELS_AT, w.channels as u64);
-    put_long(kept, COUNT_AT, w.count as u64);
+fn put_begun(kept: &mut [u8], slot: usize, channels: usize, mode: Looping) {
+    put_long(kept, SLOT_AT, slot as u64);
+    put_long(kept, CHANNELS_AT, channels as u64);
     put_u32(kept, MODE_AT, mode_number(mode));
 }
 
-fn put_sides(kept: &mut [u8], w: HpsWriter) {
-    let left = w.left;
-    let right = w.right;
+// The numbers that a push moves on.
+pub(crate) fn put_sums(kept: &mut [u8], base: u64, offset: usize, blocks: usize, sum: u64) {
+    put_long(kept, BASE_AT, base);
+    put_long(kept, OFFSET_AT, offset as u64);
+    put_long(kept, BLOCKS_AT, blocks as u64);
+    put_long(kept, SUM_AT, sum);
+}
+
+pub(crate) fn put_taken(kept: &mut [u8], next: usize, id: u32) {
+    put_long(kept, NEXT_AT, next as u64);
+    put_u32(kept, ID_AT, id);
+}
+
+pub(crate) fn put_marks(kept: &mut [u8], loopat: LoopAt, last: bool, finished: bool) {
+    put_long(kept, LOOP_AT, loop_number(loopat));
+    put_u32(kept, LAST_AT, flag(last));
+    put_u32(kept, FINISHED_AT, flag(finished));
+}
+
+// The first block's sides: after a later block they stand there already.
+pub(crate) fn put_sides(kept: &mut [u8], blocks: usize, left: ChannelBlock, right: ChannelBlock) {
+    if blocks > 1 {
+        return;
+    }
     put_side(kept, LEFT_AT, left);
     put_side(kept, RIGHT_AT, right);
 }
 
-fn put_sums(kept: &mut [u8], w: HpsWriter) {
-    put_long(kept, BASE_AT, w.base);
-    put_long(kept, OFFSET_AT, w.offset as u64);
-    put_long(kept, BLOCKS_AT, w.blocks as u64);
-    put_long(kept, SUM_AT, w.sum);
-}
-
-fn put_marks(kept: &mut [u8], w: HpsWriter) {
-    let loopat = w.loopat;
-    put_long(kept, LOOP_AT, loop_number(loopat));
-    put_u32(kept, LAST_AT, flag(w.last));
-    put_u32(kept, FINISHED_AT, flag(w.finished));
-}
-
-// What a push or a finish changes.
-pub(crate) fn put_numbers(kept: &mut [u8], w: HpsWriter) {
-    put_long(kept, NEXT_AT, w.next as u64);
-    put_u32(kept, ID_AT, w.id);
-    put_sums(kept, w);
-    put_marks(kept, w);
-    put_sides(kept, w);
-}
-
-// The whole record.
+// The record before the first push.
 pub(crate) fn put_writer(kept: &mut [u8], w: HpsWriter)
     requires { ⌜ Good w ⌝ }
 {
-    put_table_numbers(kept, w);
-    put_numbers(kept, w);
+    let mode = w.mode;
+    let loopat = w.loopat;
+    let left = w.left;
+    let right = w.right;
     let cues = w.cues;
-    put_cues(kept, CUES_AT, cues, w.count);
+    put_begun(kept, w.slot, w.channels, mode);
+    put_taken(kept, w.next, w.id);
+    put_sums(kept, w.base, w.offset, w.blocks, w.sum);
+    put_marks(kept, loopat, w.last, w.finished);
+    put_sides(kept, w.blocks, left, right);
+    put_table(kept, cues, w.count);
+}
+
+fn put_table(kept: &mut [u8], cues: [Cue; 128], count: usize)
+    requires { ⌜ count ≤ 128 ⌝ }
+{
+    put_long(kept, COUNT_AT, count as u64);
+    put_cues(kept, CUES_AT, cues, count);
 }

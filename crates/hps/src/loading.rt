@@ -3,7 +3,10 @@ use crate::NO_KIND;
 use crate::NO_RECORD;
 use crate::loader::LOADER_SIZE;
 use crate::loader::mode_of;
-use crate::loader::put_numbers;
+use crate::loader::put_marks;
+use crate::loader::put_sides;
+use crate::loader::put_sums;
+use crate::loader::put_taken;
 use crate::loader::put_writer;
 use crate::loader::writer_in;
 use crate::sides::kind_of;
@@ -55,11 +58,10 @@ pub extern "C" fn hps_cue(kept: &mut [u8], start: u64, kind: u32, range: u64, na
     if kind > 2 {
         return NO_KIND;
     }
-    let h = writer_in(kept);
-    if !h.found {
+    let w = writer_in(kept);
+    if w.slot == 0 {
         return NO_RECORD;
     }
-    let w = h.writer;
     let kind = kind_of(kind, range);
     let call = cue(w, Cue { start, kind, name });
     let reply = call.reply;
@@ -87,11 +89,10 @@ pub extern "C" fn hps_push(
     offset: &mut usize,
     length: &mut usize,
 ) -> u32 {
-    let h = writer_in(kept);
-    if !h.found {
+    let w = writer_in(kept);
+    if w.slot == 0 {
         return NO_RECORD;
     }
-    let w = h.writer;
     let l = side_in(left, 0);
     let r = side_in(right, 0);
     let call = push(w, channels, l, r, left_data, right_data, last, lent);
@@ -101,7 +102,13 @@ pub extern "C" fn hps_push(
     match reply {
         Reply::Refused(number) => number,
         Reply::Accepted(_) => {
-            put_numbers(kept, after);
+            let loopat = after.loopat;
+            let first = after.left;
+            let second = after.right;
+            put_taken(kept, after.next, after.id);
+            put_sums(kept, after.base, after.offset, after.blocks, after.sum);
+            put_marks(kept, loopat, after.last, after.finished);
+            put_sides(kept, after.blocks, first, second);
             *offset = place.offset;
             *length = place.length;
             0
@@ -112,18 +119,18 @@ pub extern "C" fn hps_push(
 // Finish: the lent buffer's first 128 bytes are those of the writes to bytes 0-14, 16-127 and 15, in this order. Gives the finished length.
 #[no_mangle]
 pub extern "C" fn hps_finish(kept: &mut [u8], lent: &mut [u8], finished: &mut usize) -> u32 {
-    let h = writer_in(kept);
-    if !h.found {
+    let w = writer_in(kept);
+    if w.slot == 0 {
         return NO_RECORD;
     }
-    let w = h.writer;
     let call = finish(w, lent);
     let reply = call.reply;
     let after = call.writer;
     match reply {
         Reply::Refused(number) => number,
         Reply::Accepted(n) => {
-            put_numbers(kept, after);
+            let loopat = after.loopat;
+            put_marks(kept, loopat, after.last, after.finished);
             *finished = n;
             0
         }

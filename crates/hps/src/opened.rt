@@ -27,12 +27,6 @@ const OFFSETS_AT: usize = 136;
 
 const NO_LOOP: u32 = 0xFFFF_FFFF;
 
-// What lent bytes hold; where they hold no record, one of no blocks.
-pub struct Held {
-    pub found: bool,
-    pub reader: HpsReader,
-}
-
 fn loop_number(start: LoopStart) -> u32 {
     match start {
         LoopStart::None => NO_LOOP,
@@ -96,8 +90,10 @@ fn offsets_in(kept: &[u8], n: usize) -> [u32; 512]
     offsets
 }
 
+// A record of no channel: it stands for bytes that hold no record.
 fn no_reader() -> HpsReader
     ensures { λ r. ⌜ Readable r ⌝ }
+    ensures { λ r. ⌜ length (r .offsets) ≡ 512 ⌝ }
 {
     let none = no_channel();
     let channels = [none; 2];
@@ -113,56 +109,43 @@ fn no_reader() -> HpsReader
     }
 }
 
-fn not_held() -> Held
-    ensures { λ h. ⌜ Readable (h .reader) ⌝ }
-{
-    let reader = no_reader();
-    Held {
-        found: false,
-        reader,
-    }
-}
-
-// The record that lent bytes hold. Whatever they are, the record meets the premise of the reading calls.
-pub(crate) fn reader_in(kept: &[u8]) -> Held
-    ensures { λ h. ⌜ Readable (h .reader) ⌝ }
+// The record that lent bytes hold, one of no channel where they hold none. Whatever they are, it meets the premise of the reading calls.
+pub(crate) fn reader_in(kept: &[u8]) -> HpsReader
+    ensures { λ r. ⌜ Readable r ⌝ }
+    ensures { λ r. ⌜ length (r .offsets) ≡ 512 ⌝ }
 {
     if kept.len() < OPENED_SIZE {
-        return not_held();
+        return no_reader();
     }
     let count = word(kept, 12) as usize;
     let blocks = word(kept, BLOCKS_AT) as usize;
     if count > 2 {
-        return not_held();
+        return no_reader();
     }
     if blocks > 512 {
-        return not_held();
+        return no_reader();
     }
     let left = read_channel(kept, 16);
     let answer = left.answer;
     let ChannelAnswer::Value = answer else {
-        return not_held();
+        return no_reader();
     };
     let right = read_channel(kept, 72);
     let answer = right.answer;
     let ChannelAnswer::Value = answer else {
-        return not_held();
+        return no_reader();
     };
     let l = left.channel;
     let r = right.channel;
     let channels = [l, r];
     let offsets = offsets_in(kept, blocks);
     let loop_start = loop_of(word(kept, LOOP_AT));
-    let reader = HpsReader {
+    HpsReader {
         rate: word(kept, 8),
         count,
         channels,
         blocks,
         offsets,
         loop_start,
-    };
-    Held {
-        found: true,
-        reader,
     }
 }

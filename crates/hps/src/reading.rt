@@ -8,13 +8,15 @@ use crate::opened::OPENED_SIZE;
 use crate::opened::put_opened;
 use crate::opened::reader_in;
 use cue_reader::CueReply;
+use cue_reader::cue_from;
 use cue_reader::first_cursor;
-use cue_reader::next_cue;
+use layout::DspFormat;
 use layout::puts::put_u32;
 use listing::listing::fill;
 use listing::listing::start_listing;
 use reader::CueIterator;
 use reader::HpsReader;
+use reader::LoopStart;
 use reader::blocks::BlockReply;
 use reader::blocks::RemainingReply;
 use reader::blocks::data_remaining;
@@ -22,9 +24,8 @@ use reader::blocks::read_block;
 use reader::opening::OpenReply;
 use reader::opening::open;
 ghost use mathlib.Core.Path.{_≡_};
-ghost use Prim.Native.Nat.{_+_, _<_, _^_};
+ghost use Prim.Native.Nat.{_+_, _<_, _≤_, _^_};
 ghost use lib.ListN.{length};
-ghost use Rattle.reader.specs.OpeningAndReading.{Readable};
 
 const CURSOR_SIZE: usize = 32;
 
@@ -74,11 +75,10 @@ pub extern "C" fn hps_block(
     last: &mut i16,
     oldest: &mut i16,
 ) -> u32 {
-    let h = reader_in(kept);
-    if !h.found {
+    let r = reader_in(kept);
+    if r.count == 0 {
         return NO_RECORD;
     }
-    let r = h.reader;
     let call = read_block(slot, r, channel, *position);
     *position = call.position;
     let reply = call.reply;
@@ -108,11 +108,10 @@ pub extern "C" fn hps_remaining(
     position: usize,
     addresses: &mut u64,
 ) -> u32 {
-    let h = reader_in(kept);
-    if !h.found {
+    let r = reader_in(kept);
+    if r.count == 0 {
         return NO_RECORD;
     }
-    let r = h.reader;
     match data_remaining(slot, r, position) {
         RemainingReply::Refused(number) => number,
         RemainingReply::Addresses(n) => {
@@ -153,11 +152,20 @@ fn put_cue(out: &mut [u8], at: usize, start: u64, kind: u32, name: u32)
     put_u32(out, at + 12, name);
 }
 
-// The next cue's bytes; 0, or the number or end that the cue call gave.
-fn put_next(s: &[u8], r: HpsReader, c: CueIterator, out: &mut [u8], at: usize) -> CueStep
-    requires { ⌜ Readable r × (at + 16 < 2 ^ 64) ⌝ }
+// The bytes of the next cue by a record's parts; 0, or the number or end that the cue call gave.
+fn put_next(
+    s: &[u8],
+    offsets: &[u32],
+    blocks: usize,
+    start: LoopStart,
+    format: DspFormat,
+    c: CueIterator,
+    out: &mut [u8],
+    at: usize,
+) -> CueStep
+    requires { ⌜ (blocks ≤ length (now offsets)) × (at + 16 < 2 ^ 64) ⌝ }
 {
-    let call = next_cue(s, r, c);
+    let call = cue_from(s, offsets, blocks, start, format, c);
     let reply = call.reply;
     let cursor = call.cursor;
     match reply {
@@ -178,14 +186,22 @@ fn put_next(s: &[u8], r: HpsReader, c: CueIterator, out: &mut [u8], at: usize) -
 }
 
 // As many cues as fit.
-fn fill_cues(s: &[u8], r: HpsReader, from: CueIterator, out: &mut [u8]) -> CuesFilled
-    requires { ⌜ Readable r ⌝ }
+fn fill_cues(
+    s: &[u8],
+    offsets: &[u32],
+    blocks: usize,
+    start: LoopStart,
+    format: DspFormat,
+    from: CueIterator,
+    out: &mut [u8],
+) -> CuesFilled
+    requires { ⌜ blocks ≤ length (now offsets) ⌝ }
 {
     let mut cursor = from;
     let mut at: usize = 0;
     let mut cues: usize = 0;
     while CUE_SIZE <= out.len() - at {
-        let step = put_next(s, r, cursor, out, at);
+        let step = put_next(s, offsets, blocks, start, format, cursor, out, at);
         cursor = step.cursor;
         if step.number != 0 {
             return CuesFilled {
@@ -216,13 +232,16 @@ pub extern "C" fn hps_cues(
     if cursor.len() < CURSOR_SIZE {
         return 14;
     }
-    let h = reader_in(kept);
-    if !h.found {
+    let r = reader_in(kept);
+    if r.count == 0 {
         return NO_RECORD;
     }
-    let r = h.reader;
     let c = cursor_in(cursor, r);
-    let filled = fill_cues(slot, r, c, out);
+    let start = r.loop_start;
+    let left = r.channels[0];
+    let format = left.format;
+    let offsets = r.offsets;
+    let filled = fill_cues(slot, &offsets, r.blocks, start, format, c, out);
     let after = filled.cursor;
     put_cursor(cursor, after);
     *cues = filled.cues;

@@ -130,7 +130,7 @@ fn bytes_that_are_no_opening_record_are_refused() {
         assert_eq!(wrong.remaining(&slot, 0), Err(NO_RECORD));
         assert_eq!(wrong.next_cue(&slot, &mut Cursor::default()), Err(NO_RECORD));
     }
-    assert_eq!(Opened::from_bytes([0; OPENED_SIZE]).block(&slot, 0, &mut 0), Err(6), "zeros are the record of no channel");
+    assert_eq!(Opened::from_bytes([0; OPENED_SIZE]).block(&slot, 0, &mut 0), Err(NO_RECORD));
 }
 
 #[test]

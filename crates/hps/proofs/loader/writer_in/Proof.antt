@@ -12,14 +12,14 @@ use Rattle.hps.proofs.loader.loop_of.Reads as loop-of-reads
 use Rattle.hps.proofs.loader.loops_within.Reads as loops-within-reads
 use Rattle.hps.proofs.loader.marks_good.Reads as marks-good-reads
 use Rattle.hps.proofs.loader.mode_of.Reads as mode-of-reads
-use Rattle.hps.proofs.loader.not_held.Reads as not-held-reads
+use Rattle.hps.proofs.loader.no_writer.Reads as no-writer-reads
 use Rattle.hps.proofs.loader.places_good.Reads as places-good-reads
 use Rattle.hps.proofs.loader.sums_good.Reads as sums-good-reads
 use Rattle.hps.proofs.sides.cues_in.Reads as cues-in-reads
 use Rattle.hps.proofs.sides.side_in.Reads as side-in-reads
 
-not-held-requires : tie.Need-not-held-requires
-not-held-requires c κs = search needs
+no-writer-requires : tie.Need-no-writer-requires
+no-writer-requires c κs = search needs
 
 returns : tie.Need-returns
 returns c = search needs
@@ -42,8 +42,8 @@ word-requires c κs = search needs
 places-good-requires : tie.Need-places-good-requires
 places-good-requires c κs = search needs
 
-not-held-requires-2 : tie.Need-not-held-requires-2
-not-held-requires-2 c κs = search needs
+no-writer-requires-2 : tie.Need-no-writer-requires-2
+no-writer-requires-2 c κs = search needs
 
 returns-2 : tie.Need-returns-2
 returns-2 c = search needs
@@ -60,8 +60,8 @@ long-requires-7 c κs = search needs
 sums-good-requires : tie.Need-sums-good-requires
 sums-good-requires c κs = search needs
 
-not-held-requires-3 : tie.Need-not-held-requires-3
-not-held-requires-3 c κs = search needs
+no-writer-requires-3 : tie.Need-no-writer-requires-3
+no-writer-requires-3 c κs = search needs
 
 returns-3 : tie.Need-returns-3
 returns-3 c = search needs
@@ -75,8 +75,8 @@ word-requires-3 c κs = search needs
 marks-good-requires : tie.Need-marks-good-requires
 marks-good-requires c κs = search needs
 
-not-held-requires-4 : tie.Need-not-held-requires-4
-not-held-requires-4 c κs = search needs
+no-writer-requires-4 : tie.Need-no-writer-requires-4
+no-writer-requires-4 c κs = search needs
 
 returns-4 : tie.Need-returns-4
 returns-4 c = search needs
@@ -90,8 +90,8 @@ loop-of-requires c κs = search needs
 loops-within-requires : tie.Need-loops-within-requires
 loops-within-requires c κs = search needs
 
-not-held-requires-5 : tie.Need-not-held-requires-5
-not-held-requires-5 c κs = search needs
+no-writer-requires-5 : tie.Need-no-writer-requires-5
+no-writer-requires-5 c κs = search needs
 
 returns-5 : tie.Need-returns-5
 returns-5 c = search needs
@@ -146,7 +146,7 @@ pub writer-in-spec : {M : Type 1} → statement M
 writer-in-spec =
     tie.close
     (tie.spec
-    not-held-requires
+    no-writer-requires
     returns
     long-requires
     long-requires-2
@@ -154,23 +154,23 @@ writer-in-spec =
     long-requires-4
     word-requires
     places-good-requires
-    not-held-requires-2
+    no-writer-requires-2
     returns-2
     long-requires-5
     long-requires-6
     long-requires-7
     sums-good-requires
-    not-held-requires-3
+    no-writer-requires-3
     returns-3
     word-requires-2
     word-requires-3
     marks-good-requires
-    not-held-requires-4
+    no-writer-requires-4
     returns-4
     long-requires-8
     loop-of-requires
     loops-within-requires
-    not-held-requires-5
+    no-writer-requires-5
     returns-5
     word-requires-4
     mode-of-requires

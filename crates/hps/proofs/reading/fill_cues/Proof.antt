@@ -10,10 +10,10 @@ use Rattle.hps.proofs.reading.fill_cues.Lts as lts
 use Rattle.hps.proofs.reading.put_next.Reads as put-next-reads
 
 abbrev Inv-loop : tie.InvT-loop
-Inv-loop s r out₀ cursor₀ at₀ cues₀ out cursor at cues = (length out ≡ length out₀) × (at ≤ length out) × (cues ≤ at)
+Inv-loop s offsets blocks start format out₀ cursor₀ at₀ cues₀ out cursor at cues = (length out ≡ length out₀) × (at ≤ length out) × (cues ≤ at)
 
 abbrev μ-loop : tie.MeasureT-loop
-μ-loop s r out₀ cursor₀ at₀ cues₀ out cursor at cues = length out - at
+μ-loop s offsets blocks start format out₀ cursor₀ at₀ cues₀ out cursor at cues = length out - at
 
 loop-holds : tie.Need-loop-holds Inv-loop μ-loop
 loop-holds c = search needs

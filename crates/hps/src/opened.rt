@@ -77,17 +77,24 @@ pub(crate) fn put_opened(kept: &mut [u8], s: &[u8], r: HpsReader)
     put_offsets(kept, r);
 }
 
-fn offsets_in(kept: &[u8], n: usize) -> [u32; 512]
-    requires { ⌜ n ≤ 512 ⌝ }
+// The offsets of the blocks from one to another, zeros elsewhere.
+fn offsets_in(kept: &[u8], from: usize, to: usize) -> [u32; 512]
+    requires { ⌜ to ≤ 512 ⌝ }
     ensures { λ r. ⌜ length r ≡ 512 ⌝ }
 {
     let mut offsets = [0u32; 512];
-    let mut i: usize = 0;
-    while i < n {
+    let mut i = from;
+    while i < to {
         offsets[i] = word(kept, OFFSETS_AT + 4 * i);
         i += 1;
     }
     offsets
+}
+
+fn lesser(a: usize, b: usize) -> usize
+    ensures { λ r. ⌜ r ≤ b ⌝ }
+{
+    if a < b { a } else { b }
 }
 
 // A record of no channel: it stands for bytes that hold no record.
@@ -110,7 +117,8 @@ fn no_reader() -> HpsReader
 }
 
 // The record that lent bytes hold, one of no channel where they hold none. Whatever they are, it meets the premise of the reading calls.
-pub(crate) fn reader_in(kept: &[u8]) -> HpsReader
+// Of the offsets it has those of the blocks from one to another, which are all that the call needs.
+pub(crate) fn reader_in(kept: &[u8], from: usize, to: usize) -> HpsReader
     ensures { λ r. ⌜ Readable r ⌝ }
     ensures { λ r. ⌜ length (r .offsets) ≡ 512 ⌝ }
 {
@@ -138,7 +146,7 @@ pub(crate) fn reader_in(kept: &[u8]) -> HpsReader
     let l = left.channel;
     let r = right.channel;
     let channels = [l, r];
-    let offsets = offsets_in(kept, blocks);
+    let offsets = offsets_in(kept, from, lesser(to, blocks));
     let loop_start = loop_of(word(kept, LOOP_AT));
     HpsReader {
         rate: word(kept, 8),

@@ -14,6 +14,7 @@ use layout::DspFormat;
 use layout::puts::put_u32;
 use listing::listing::fill;
 use listing::listing::start_listing;
+use reader::BLOCK_LIMIT;
 use reader::CueIterator;
 use reader::HpsReader;
 use reader::LoopStart;
@@ -30,12 +31,6 @@ ghost use lib.ListN.{length};
 const CURSOR_SIZE: usize = 32;
 
 const CUE_SIZE: usize = 16;
-
-// What one cue call came to: 0 where it gave a cue.
-struct CueStep {
-    number: u32,
-    cursor: CueIterator,
-}
 
 struct CuesFilled {
     number: u32,
@@ -61,6 +56,15 @@ pub extern "C" fn hps_open(slot: &[u8], kept: &mut [u8]) -> u32 {
     }
 }
 
+// The position after this one, no further than a record has blocks.
+fn past(position: usize) -> usize {
+    if position < BLOCK_LIMIT {
+        position + 1
+    } else {
+        BLOCK_LIMIT
+    }
+}
+
 // Block read: where the data lies in the slot, the block's length and context, and the position after the call.
 #[no_mangle]
 pub extern "C" fn hps_block(
@@ -75,11 +79,12 @@ pub extern "C" fn hps_block(
     last: &mut i16,
     oldest: &mut i16,
 ) -> u32 {
-    let r = reader_in(kept);
+    let at = *position;
+    let r = reader_in(kept, at, past(at));
     if r.count == 0 {
         return NO_RECORD;
     }
-    let call = read_block(slot, r, channel, *position);
+    let call = read_block(slot, r, channel, at);
     *position = call.position;
     let reply = call.reply;
     match reply {
@@ -108,7 +113,7 @@ pub extern "C" fn hps_remaining(
     position: usize,
     addresses: &mut u64,
 ) -> u32 {
-    let r = reader_in(kept);
+    let r = reader_in(kept, position, BLOCK_LIMIT);
     if r.count == 0 {
         return NO_RECORD;
     }
@@ -152,36 +157,42 @@ fn put_cue(out: &mut [u8], at: usize, start: u64, kind: u32, name: u32)
     put_u32(out, at + 12, name);
 }
 
-// The bytes of the next cue by a record's parts; 0, or the number or end that the cue call gave.
-fn put_next(
-    s: &[u8],
-    offsets: &[u32],
-    blocks: usize,
-    start: LoopStart,
-    format: DspFormat,
-    c: CueIterator,
-    out: &mut [u8],
-    at: usize,
-) -> CueStep
-    requires { ⌜ (blocks ≤ length (now offsets)) × (at + 16 < 2 ^ 64) ⌝ }
+// The bytes of a cue that a call gave; 0, or the number or end that it gave.
+fn put_reply(reply: CueReply, out: &mut [u8], at: usize) -> u32
+    requires { ⌜ at + 16 < 2 ^ 64 ⌝ }
 {
-    let call = cue_from(s, offsets, blocks, start, format, c);
-    let reply = call.reply;
-    let cursor = call.cursor;
     match reply {
-        CueReply::Refused(number) => CueStep { number, cursor },
-        CueReply::End => CueStep {
-            number: END,
-            cursor,
-        },
+        CueReply::Refused(number) => number,
+        CueReply::End => END,
         CueReply::Loop(start) => {
             put_cue(out, at, start, 1, 0);
-            CueStep { number: 0, cursor }
+            0
         }
         CueReply::Point(start, name) => {
             put_cue(out, at, start, 0, name);
-            CueStep { number: 0, cursor }
+            0
         }
+    }
+}
+
+fn filled(
+    number: u32,
+    cues: usize,
+    block: usize,
+    place: usize,
+    base: u64,
+    due: bool,
+) -> CuesFilled {
+    let cursor = CueIterator {
+        block,
+        place,
+        base,
+        due,
+    };
+    CuesFilled {
+        number,
+        cues,
+        cursor,
     }
 }
 
@@ -197,27 +208,35 @@ fn fill_cues(
 ) -> CuesFilled
     requires { ⌜ blocks ≤ length (now offsets) ⌝ }
 {
-    let mut cursor = from;
-    let mut at: usize = 0;
+    // The cursor by its numbers: a cursor as a whole would be copied some times for each cue.
+    let mut block = from.block;
+    let mut place = from.place;
+    let mut base = from.base;
+    let mut due = from.due;
     let mut cues: usize = 0;
+    let mut at: usize = 0;
     while CUE_SIZE <= out.len() - at {
-        let step = put_next(s, offsets, blocks, start, format, cursor, out, at);
-        cursor = step.cursor;
-        if step.number != 0 {
-            return CuesFilled {
-                number: step.number,
-                cues,
-                cursor,
-            };
+        let c = CueIterator {
+            block,
+            place,
+            base,
+            due,
+        };
+        let call = cue_from(s, offsets, blocks, start, format, c);
+        let reply = call.reply;
+        let after = call.cursor;
+        block = after.block;
+        place = after.place;
+        base = after.base;
+        due = after.due;
+        let number = put_reply(reply, out, at);
+        if number != 0 {
+            return filled(number, cues, block, place, base, due);
         }
         at += CUE_SIZE;
         cues += 1;
     }
-    CuesFilled {
-        number: 0,
-        cues,
-        cursor,
-    }
+    filled(0, cues, block, place, base, due)
 }
 
 // Cue calls from a cursor on, until out is full, the cues end or one is refused; how many cues were given, and the cursor after them.
@@ -232,7 +251,7 @@ pub extern "C" fn hps_cues(
     if cursor.len() < CURSOR_SIZE {
         return 14;
     }
-    let r = reader_in(kept);
+    let r = reader_in(kept, 0, BLOCK_LIMIT);
     if r.count == 0 {
         return NO_RECORD;
     }

@@ -10,10 +10,10 @@ use Rattle.hps.proofs.opened.offsets_in.Lts as lts
 use Rattle.hps.proofs.fields.word.Reads as word-reads
 
 abbrev Inv-loop : tie.InvT-loop
-Inv-loop kept n offsets₀ i₀ offsets i = (length offsets ≡ 512) × (i ≤ n)
+Inv-loop kept from to offsets₀ i₀ offsets i = length offsets ≡ 512
 
 abbrev μ-loop : tie.MeasureT-loop
-μ-loop kept n offsets₀ i₀ offsets i = n - i
+μ-loop kept from to offsets₀ i₀ offsets i = to - i
 
 loop-holds : tie.Need-loop-holds Inv-loop μ-loop
 loop-holds c = search needs

@@ -7,13 +7,17 @@ use Rattle.hps.proofs.reading.fill_cues.Statement.{statement}
 use Rattle.hps.proofs.reading.fill_cues.Tie as tie
 use Rattle.hps.proofs.reading.fill_cues.Reads as reads
 use Rattle.hps.proofs.reading.fill_cues.Lts as lts
-use Rattle.hps.proofs.reading.put_next.Reads as put-next-reads
+use Rattle.cue_reader.proofs.cue_from.Reads as cue-from-reads
+use Rattle.hps.proofs.reading.filled.Reads as filled-reads
+use Rattle.hps.proofs.reading.put_reply.Reads as put-reply-reads
 
 abbrev Inv-loop : tie.InvT-loop
-Inv-loop s offsets blocks start format out₀ cursor₀ at₀ cues₀ out cursor at cues = (length out ≡ length out₀) × (at ≤ length out) × (cues ≤ at)
+Inv-loop s offsets blocks start format out₀ block₀ place₀ base₀ due₀ cues₀ at₀ out block place base due cues at =
+    (length out ≡ length out₀) × (at ≤ length out) × (cues ≤ at)
 
 abbrev μ-loop : tie.MeasureT-loop
-μ-loop s offsets blocks start format out₀ cursor₀ at₀ cues₀ out cursor at cues = length out - at
+μ-loop s offsets blocks start format out₀ block₀ place₀ base₀ due₀ cues₀ at₀ out block place base due cues at =
+    length out - at
 
 loop-holds : tie.Need-loop-holds Inv-loop μ-loop
 loop-holds c = search needs
@@ -21,8 +25,14 @@ loop-holds c = search needs
 sub-loop : tie.Need-sub-loop Inv-loop μ-loop
 sub-loop c = search needs
 
-put-next-requires : tie.Need-put-next-requires Inv-loop μ-loop
-put-next-requires c κs = search needs
+cue-from-requires : tie.Need-cue-from-requires Inv-loop μ-loop
+cue-from-requires c κs = search needs
+
+put-reply-requires : tie.Need-put-reply-requires Inv-loop μ-loop
+put-reply-requires c κs = search needs
+
+filled-requires : tie.Need-filled-requires Inv-loop μ-loop
+filled-requires c κs = search needs
 
 same-length : tie.Need-same-length Inv-loop μ-loop
 same-length c = search needs
@@ -42,6 +52,9 @@ loop-less c = search needs
 loop-again : tie.Need-loop-again Inv-loop μ-loop
 loop-again c = search needs
 
+filled-requires-2 : tie.Need-filled-requires-2 Inv-loop μ-loop
+filled-requires-2 c κs = search needs
+
 same-length-2 : tie.Need-same-length-2 Inv-loop μ-loop
 same-length-2 c = search needs
 
@@ -56,12 +69,15 @@ fill-cues-spec =
     μ-loop
     loop-holds
     sub-loop
-    put-next-requires
+    cue-from-requires
+    put-reply-requires
+    filled-requires
     same-length
     returns
     add-at
     add-cues
     loop-less
     loop-again
+    filled-requires-2
     same-length-2
     returns-2)

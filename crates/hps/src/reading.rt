@@ -1,15 +1,15 @@
 // The reading calls and the listing. A call gives 0, a refusal's number, END or NO_RECORD; only with 0 are the numbers that it gives set.
 use crate::END;
 use crate::NO_RECORD;
-use crate::fields::long;
-use crate::fields::put_long;
-use crate::fields::word;
-use crate::opened::OPENED_SIZE;
-use crate::opened::put_opened;
-use crate::opened::reader_in;
 use cue_reader::CueReply;
 use cue_reader::cue_from;
 use cue_reader::first_cursor;
+use kept_reader::fields::long;
+use kept_reader::fields::put_long;
+use kept_reader::fields::word;
+use kept_reader::opened::OPENED_SIZE;
+use kept_reader::opened::put_opened;
+use kept_reader::opened::reader_in;
 use layout::DspFormat;
 use layout::puts::put_u32;
 use listing::listing::fill;

@@ -5,7 +5,7 @@ use Rattle.hps.proofs.reading.hps_open.Statement.{statement}
 use Rattle.hps.proofs.reading.hps_open.Tie as tie
 use Rattle.hps.proofs.reading.hps_open.Reads as reads
 use Rattle.hps.proofs.reading.hps_open.Lts as lts
-use Rattle.hps.proofs.opened.put_opened.Reads as put-opened-reads
+use Rattle.kept_reader.proofs.opened.put_opened.Reads as put-opened-reads
 use Rattle.reader.proofs.opening.open.Reads as open-reads
 
 -- src/reading.rt:36:9

@@ -1,5 +1,12 @@
 -- What the cue call returns: the struct and the enum for each answer of the definitions.
 use Prim.Native.Nat.{ℕ}
+use mathlib.Core.Path.{_≡_}
+use mathlib.Core.List.{List}
+use lib.ListN.{length}
+use Rattle.layout.specs.declared.DspFormat.{DspFormat}
+use Rattle.reader.specs.declared.HpsReader.{HpsReader}
+use Rattle.reader.specs.declared.LoopStart.{LoopStart}
+use Rattle.reader.specs.OpeningAndReading.{Readable, channelIn}
 use Rattle.layout.specs.Records.{Read}
 use Rattle.layout.specs.declared.CuePoint.{CuePoint}
 use Rattle.reader.specs.declared.CueIterator.{CueIterator}
@@ -23,3 +30,13 @@ cueCall c = cueCalled (cueReply (c .answer)) (c .after)
 abbrev pub pointRead : (base : ℕ) → Read CuePoint → CueReply
 pointRead b (Read.refused n) = CueReply.Refused n
 pointRead b (Read.value p) = cueReply (pointOf b p)
+
+-- What a cue call needs of an opening record: its offsets, its count of blocks, its loop start and channel 0's format.
+pub record PartsOf (r : HpsReader) (os : List ℕ) (n : ℕ) (l : LoopStart) (f : DspFormat) : Type 0 where
+  pub readable : Readable r
+  pub two : length (r .channels) ≡ 2
+  pub table : length (r .offsets) ≡ 512
+  pub offsets : r .offsets ≡ os
+  pub blocks : r .blocks ≡ n
+  pub start : r .«loop_start» ≡ l
+  pub format : channelIn r 0 .format ≡ f

@@ -1,4 +1,5 @@
 // The cue call and its cursor (document 01, "Cues read back").
+use layout::DspFormat;
 use layout::block::CueRead;
 use layout::block::HeaderRead;
 use layout::block::read_cue;
@@ -8,14 +9,16 @@ use reader::HpsReader;
 use reader::LoopStart;
 use sizes::num_samples;
 ghost use mathlib.Core.Path.{_≡_};
-ghost use Prim.Native.Nat.{_+_, _%_, _^_};
+ghost use Prim.Native.Nat.{_+_, _%_, _^_, _≤_};
+ghost use lib.ListN.{length};
 ghost use mir.Syntax.{w64};
 ghost use mir.Val.{ofZ};
 ghost use Rattle.layout.specs.Choice.{_and_};
 ghost use Rattle.layout.specs.Records.{field, cueAt};
+ghost use Rattle.reader.specs.declared.HpsReader.{HpsReader};
 ghost use Rattle.reader.specs.OpeningAndReading.{Readable};
 ghost use Rattle.reader.specs.CuesReadBack.{cursor, looped, firstCursor, loopHere, cueStep};
-ghost use Rattle.cue_reader.specs.CueAnswers.{cueCalled, cueCall, pointRead};
+ghost use Rattle.cue_reader.specs.CueAnswers.{cueCalled, cueCall, pointRead, PartsOf};
 
 pub enum CueReply {
     Refused(u32),
@@ -106,23 +109,27 @@ fn stepped(reply: CueReply, block: usize, place: usize, base: u64, due: bool) ->
     }
 }
 
-// The next cue from a cursor. A refused call leaves the cursor.
-pub fn next_cue(s: &[u8], r: HpsReader, c: CueIterator) -> CueCall
-    requires { ⌜ Readable r ⌝ }
-    ensures { λ q. ⌜ q ≡ cueCall (cueStep (now (s .entry)) r c) ⌝ }
+// The next cue from a cursor, by the parts of the record that it needs. Lent, they need not be copied for each of many calls.
+pub fn cue_from(
+    s: &[u8],
+    offsets: &[u32],
+    blocks: usize,
+    start: LoopStart,
+    format: DspFormat,
+    c: CueIterator,
+) -> CueCall
+    requires { ⌜ blocks ≤ length (now offsets) ⌝ }
+    ensures { λ q. ⌜ ((r : HpsReader) → PartsOf r (now (offsets .entry)) blocks start format → q ≡ cueCall (cueStep (now (s .entry)) r c)) ⌝ }
 {
-    let start = r.loop_start;
-    let left = r.channels[0];
-    let format = left.format;
     let due = c.due;
     let mut block = c.block;
     let mut place = c.place;
     let mut base = c.base;
-    while block < r.blocks {
+    while block < blocks {
         if loop_here(due, start, block) {
             return stepped(CueReply::Loop(base), block, place, base, false);
         }
-        let offset = r.offsets[block];
+        let offset = offsets[block];
         let HeaderRead::Value(header) = read_header(s, offset) else {
             return CueCall {
                 reply: CueReply::Refused(1),
@@ -138,4 +145,16 @@ pub fn next_cue(s: &[u8], r: HpsReader, c: CueIterator) -> CueCall
         base = std::num::wrapping_add_u64(base, num_samples(header.end_address, format));
     }
     stepped(CueReply::End, block, place, base, due)
+}
+
+// The next cue from a cursor. A refused call leaves the cursor.
+pub fn next_cue(s: &[u8], r: HpsReader, c: CueIterator) -> CueCall
+    requires { ⌜ Readable r ⌝ }
+    ensures { λ q. ⌜ q ≡ cueCall (cueStep (now (s .entry)) r c) ⌝ }
+{
+    let start = r.loop_start;
+    let left = r.channels[0];
+    let format = left.format;
+    let offsets = r.offsets;
+    cue_from(s, &offsets, r.blocks, start, format, c)
 }

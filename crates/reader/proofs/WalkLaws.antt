@@ -5,8 +5,9 @@ use mathlib.Core.List.{List, [], _∷_, _++_}
 use native.Mathlib.Omega.{arith}
 use native.Mathlib.Nat.{le-of-suc-le-suc, not-suc-le-zero}
 use borrow.Author.Tests.{eq-eqb, ne-eqb}
-use lib.ListN.{length, getD, set, replicate, length-append, List·getD-append}
-use lib.Seq.{set-at, append-snoc}
+use lib.ListN.{length, getD, set, replicate, length-append, length-replicate, List·getD-append}
+use lib.Seq.{set-at, append-snoc, getD-set-same, getD-set-other}
+use borrow.Author.Count.{below-more}
 use Rattle.layout.specs.Lists.{firstIndex}
 use Rattle.layout.specs.Records.{Read, readHeader}
 use Rattle.layout.specs.declared.BlockHeader.{BlockHeader}
@@ -62,6 +63,12 @@ unfolding filled
 filled-at seen k h = List·getD-append seen (replicate (512 - length seen) 0) 0 k h
 
 module _ (s offsets : List ℕ) (count current : ℕ) (w : Walking s offsets count current) where
+  wide : length offsets ≡ 512
+  unfolding filled
+  wide =
+      rw (w .is)
+      (omega (arith, length-append (w .seen) (replicate {A = ℕ} (512 - length (w .seen)) 0), length-replicate {A = ℕ} (512 - length (w .seen)) 0, w .long, w .few))
+
   -- no block is left to read
   pub at-full : 512 ≤ count → noWalk 5 ≡ walkOf (walkFrom 512 s [] 128)
   unfolding walkFrom
@@ -74,6 +81,13 @@ module _ (s offsets : List ℕ) (count current : ℕ) (w : Walking s offsets cou
     more =
         let e : 512 - count ≡ suc (512 - (count + 1)) = omega arith in
         w .same ∙ ap (λ (n : ℕ). walkFrom n s (w .seen) current) e
+
+    -- no offset walked is above the highest of them, one more included
+    pub all-higher : (above above1 : ℕ) → ((k : ℕ) → k < count → getD offsets k 0 ≤ above) → above ≤ above1 → current ≤ above1
+        → (k : ℕ) → k < count + 1 → getD (set offsets count current) k 0 ≤ above1
+    all-higher above above1 f g e =
+        below-more (λ (k : ℕ). getD (set offsets count current) k 0 ≤ above1) count (λ k l. rw (getD-set-other offsets count k current 0 (λ q. omega arith)) (omega (arith, f k l)))
+        (rw (getD-set-same offsets count current 0 (omega (arith, wide))) e)
 
     short : readHeader s current ≡ Read.refused 1 → walkFrom (suc (512 - (count + 1))) s (w .seen) current ≡ Walked.refused 1
     unfolding walkFrom

@@ -6,6 +6,7 @@ use layout::block::HeaderRead;
 use layout::block::read_header;
 ghost use mathlib.Core.Path.{_≡_};
 ghost use mathlib.Core.List.{[]};
+ghost use Prim.Native.Nat.{ℕ, _≤_, _<_};
 ghost use Rattle.layout.specs.Records.{firstBlockOffset};
 ghost use Rattle.layout.specs.Refusals.{blockLimit};
 ghost use Rattle.reader.specs.OpeningAndReading.{walkFrom};
@@ -38,6 +39,22 @@ fn refused(number: u32) -> Walk
     }
 }
 
+fn higher(a: u32, b: u32) -> u32
+    ensures { λ r. ⌜ (a ≤ r) × (b ≤ r) ⌝ }
+{
+    if a < b { b } else { a }
+}
+
+// Where to begin the search for an offset: past all that were walked if it is higher than the highest of them.
+fn search_from(next: u32, highest: u32, count: usize) -> usize
+    ensures { λ r. ⌜ (r ≤ count) × ((k : ℕ) → k < r → highest < next) ⌝ }
+{
+    if next > highest {
+        return count;
+    }
+    0
+}
+
 // From the first block along the next offsets, until the end or a block already walked.
 pub fn walk_blocks(s: &[u8]) -> Walk
     ensures { λ w. ⌜ w ≡ walkOf (walkFrom blockLimit (now (s .entry)) [] firstBlockOffset) ⌝ }
@@ -45,6 +62,7 @@ pub fn walk_blocks(s: &[u8]) -> Walk
     let mut offsets = [0u32; BLOCK_LIMIT];
     let mut count: usize = 0;
     let mut current: u32 = FIRST_BLOCK_OFFSET;
+    let mut highest: u32 = 0;
     let reply = 'walk: loop {
         if count >= BLOCK_LIMIT {
             return refused(5);
@@ -54,11 +72,12 @@ pub fn walk_blocks(s: &[u8]) -> Walk
         };
         offsets[count] = current;
         count += 1;
+        highest = higher(highest, current);
         let next = header.next_offset;
         if next == END_BLOCK_OFFSET {
             break WalkReply::End;
         }
-        let mut i: usize = 0;
+        let mut i = search_from(next, highest, count);
         while i < count {
             if offsets[i] == next {
                 break 'walk WalkReply::Loop(i);

@@ -1,0 +1,132 @@
+use Prim.Native.Nat.{ℕ, _+_, _-_, _%_, _^_}
+use mathlib.Core.Path.{_≡_, sym, ap, _∙_}
+use borrow.Author.Needs.{needs}
+use native.Mathlib.Omega.{arith}
+use Rattle.reader.specs.declared.HpsReader.{HpsReader}
+use Rattle.reader.proofs.HeaderLaws.{header-got, header-short}
+use Rattle.cue_reader.specs.CueAnswers.{PartsOf}
+use Rattle.cue_reader.proofs.NextCueLaws.{Stepping, stepping-none, cues-inside, all-end, all-loop, all-short, all-point, all-next}
+use Rattle.cue_reader.proofs.cue_from.Statement.{statement}
+use Rattle.cue_reader.proofs.cue_from.Tie as tie
+use Rattle.cue_reader.proofs.cue_from.Reads as reads
+use Rattle.cue_reader.proofs.cue_from.Lts as lts
+use Rattle.cue_reader.proofs.loop_here.Reads as loop-here-reads
+use Rattle.cue_reader.proofs.point_at.Reads as point-at-reads
+use Rattle.cue_reader.proofs.stepped.Reads as stepped-reads
+use Rattle.layout.proofs.block.read_header.Reads as read-header-reads
+use Rattle.sizes.proofs.num_samples.Reads as num-samples-reads
+use Rattle.std.proofs.num.wrapping_add_u64.Reads as wrapping-add-u64-reads
+
+abbrev Inv-loop : tie.InvT-loop
+Inv-loop s offsets blocks start format c due block₀ place₀ base₀ block place base =
+    (r : HpsReader) → PartsOf r offsets blocks start format → Stepping s r c block place base
+
+abbrev μ-loop : tie.MeasureT-loop
+μ-loop s offsets blocks start format c due block₀ place₀ base₀ block place base = blocks - block
+
+loop-holds : tie.Need-loop-holds Inv-loop μ-loop
+loop-holds c = λ r p. stepping-none _ r _
+
+loop-here-requires : tie.Need-loop-here-requires Inv-loop μ-loop
+loop-here-requires c κs = search needs
+
+stepped-requires : tie.Need-stepped-requires Inv-loop μ-loop
+stepped-requires c κs = search needs
+
+returns : tie.Need-returns Inv-loop μ-loop
+returns c = all-loop _ _ _ _ _ _ _ _ _ (c .before .before .before .before .loop .inv) (c .before .before .before .loop-test .taken) (sym (c .before .before .loop-here .ensures) ∙ c .before .if1 .taken) (c .stepped .ensures)
+
+mul-offset : tie.Need-mul-offset Inv-loop μ-loop
+mul-offset c = search needs
+
+shared-slice-read-offset : tie.Need-shared-slice-read-offset Inv-loop μ-loop
+shared-slice-read-offset c = search needs
+
+read-header-requires : tie.Need-read-header-requires Inv-loop μ-loop
+read-header-requires c κs = search needs
+
+enum-known-header : tie.Need-enum-known-header Inv-loop μ-loop
+enum-known-header c = search needs
+
+enum-told : tie.Need-enum-told Inv-loop μ-loop
+enum-told c = search needs
+
+returns-2 : tie.Need-returns-2 Inv-loop μ-loop
+returns-2 c = all-short _ _ _ _ _ _ _ _ _ (c .before .before .before .before .before .before .before .loop .inv) (c .before .before .before .before .before .before .loop-test .taken) (sym (c .before .before .before .before .before .loop-here .ensures) ∙ c .before .before .before .before .if1 .left) (header-short _ _ (c .before .before .read-header .ensures) (c .enum-told .given .1))
+
+cast-point-at : tie.Need-cast-point-at Inv-loop μ-loop
+cast-point-at c = omega (arith, cues-inside _ _ (c .before .before .before .before .before .before .before .before .before .before .loop .place) _ (header-got _ _ (c .before .before .before .before .before .read-header .ensures) (c .before .before .before .header .given .1)) (c .if2 .taken))
+
+add-point-at : tie.Need-add-point-at Inv-loop μ-loop
+add-point-at c = omega (arith, cues-inside _ _ (c .before .before .before .before .before .before .before .before .before .before .loop .place) _ (header-got _ _ (c .before .before .before .before .before .read-header .ensures) (c .before .before .before .header .given .1)) (c .if2 .taken))
+
+mul-point-at : tie.Need-mul-point-at Inv-loop μ-loop
+mul-point-at c = omega (arith, cues-inside _ _ (c .before .before .before .before .before .before .before .before .before .before .loop .place) _ (header-got _ _ (c .before .before .before .before .before .read-header .ensures) (c .before .before .before .header .given .1)) (c .if2 .taken))
+
+add-point-at-2 : tie.Need-add-point-at-2 Inv-loop μ-loop
+add-point-at-2 c = omega (arith, cues-inside _ _ (c .before .before .before .before .before .before .before .before .before .before .loop .place) _ (header-got _ _ (c .before .before .before .before .before .read-header .ensures) (c .before .before .before .header .given .1)) (c .if2 .taken))
+
+point-at-requires : tie.Need-point-at-requires Inv-loop μ-loop
+point-at-requires c κs = search needs
+
+add-stepped : tie.Need-add-stepped Inv-loop μ-loop
+add-stepped c = search needs
+
+stepped-requires-2 : tie.Need-stepped-requires-2 Inv-loop μ-loop
+stepped-requires-2 c κs = search needs
+
+returns-3 : tie.Need-returns-3 Inv-loop μ-loop
+returns-3 c = all-point _ _ _ _ _ _ _ _ _ (c .before .before .before .before .before .before .before .before .before .before .before .before .loop .inv) (c .before .before .before .before .before .before .before .before .before .before .before .loop-test .taken) (sym (c .before .before .before .before .before .before .before .before .before .before .loop-here .ensures) ∙ c .before .before .before .before .before .before .before .before .before .if1 .left) (c .before .before .before .before .before .header .given .0 .0) (header-got _ _ (c .before .before .before .before .before .before .before .read-header .ensures) (c .before .before .before .before .before .header .given .1)) (c .before .before .if2 .taken) (c .before .point-at .ensures) (c .stepped2 .ensures)
+
+add-block : tie.Need-add-block Inv-loop μ-loop
+add-block c = search needs
+
+num-samples-requires : tie.Need-num-samples-requires Inv-loop μ-loop
+num-samples-requires c κs = search needs
+
+wrapping-add-u64-requires : tie.Need-wrapping-add-u64-requires Inv-loop μ-loop
+wrapping-add-u64-requires c κs = search needs
+
+loop-less : tie.Need-loop-less Inv-loop μ-loop
+loop-less c = search needs
+
+loop-again : tie.Need-loop-again Inv-loop μ-loop
+loop-again c = all-next _ _ _ _ _ _ _ _ _ (c .before .before .before .before .before .before .before .before .before .before .before .before .loop .inv) (c .before .before .before .before .before .before .before .before .before .before .before .loop-test .taken) (sym (c .before .before .before .before .before .before .before .before .before .before .loop-here .ensures) ∙ c .before .before .before .before .before .before .before .before .before .if1 .left) (c .before .before .before .before .before .header .given .0 .0) (header-got _ _ (c .before .before .before .before .before .before .before .read-header .ensures) (c .before .before .before .before .before .header .given .1)) (c .before .before .if2 .left) _ (c .wrapping-add-u64 .ensures ∙ ap (λ (m : ℕ). (c .before .before .before .before .before .before .before .before .before .before .before .before .loop .base + m) % 2 ^ 64) (c .before .num-samples .ensures))
+
+stepped-requires-3 : tie.Need-stepped-requires-3 Inv-loop μ-loop
+stepped-requires-3 c κs = search needs
+
+returns-4 : tie.Need-returns-4 Inv-loop μ-loop
+returns-4 c = all-end _ _ _ _ _ _ _ _ _ (c .before .before .loop .inv) (c .before .loop-test .left) (c .stepped3 .ensures)
+
+pub cue-from-spec : {M : Type 1} → statement M
+cue-from-spec =
+    tie.close
+    (tie.spec
+    Inv-loop
+    μ-loop
+    loop-holds
+    loop-here-requires
+    stepped-requires
+    returns
+    mul-offset
+    shared-slice-read-offset
+    read-header-requires
+    enum-known-header
+    enum-told
+    returns-2
+    cast-point-at
+    add-point-at
+    mul-point-at
+    add-point-at-2
+    point-at-requires
+    add-stepped
+    stepped-requires-2
+    returns-3
+    add-block
+    num-samples-requires
+    wrapping-add-u64-requires
+    loop-less
+    loop-again
+    stepped-requires-3
+    returns-4)

@@ -1,0 +1,11 @@
+// The calls for programs in C and Rust: numbers and byte slices go in and out, and a record is kept in bytes that the caller lends (link/include/hps.h).
+
+pub mod loading; // loading.rt: the loading calls and the estimate
+pub mod reading; // reading.rt: the reading calls and the listing
+
+// A reading call has come to the end.
+pub const END: u32 = 255;
+// The lent bytes are no record.
+pub const NO_RECORD: u32 = 254;
+// A looping mode or a kind of cue that there is not.
+pub const NO_KIND: u32 = 253;

@@ -1,0 +1,159 @@
+// The opening record in bytes: the file header, with zeros for a channel that is not in use; the count of blocks; the loop start, 4,294,967,295 for none; the offsets of 512 blocks.
+use crate::fields::word;
+use layout::channels::ChannelAnswer;
+use layout::channels::no_channel;
+use layout::channels::read_channel;
+use puts::put_bytes;
+use puts::put_u32;
+use puts::put_zeros;
+use reader::HpsReader;
+use reader::LoopStart;
+ghost use mathlib.Core.Path.{_≡_};
+ghost use Prim.Native.Nat.{_≤_};
+ghost use lib.ListN.{length};
+ghost use Rattle.reader.specs.OpeningAndReading.{Readable};
+
+pub const OPENED_SIZE: usize = 2184;
+
+const FILE_SIZE: usize = 128;
+
+const SECOND_AT: usize = 72;
+
+const BLOCKS_AT: usize = 128;
+
+const LOOP_AT: usize = 132;
+
+const OFFSETS_AT: usize = 136;
+
+const NO_LOOP: u32 = 0xFFFF_FFFF;
+
+fn loop_number(start: LoopStart) -> u32 {
+    match start {
+        LoopStart::None => NO_LOOP,
+        LoopStart::Block(i) => (i % 4294967296) as u32,
+    }
+}
+
+fn loop_of(number: u32) -> LoopStart {
+    if number == NO_LOOP {
+        LoopStart::None
+    } else {
+        LoopStart::Block(number as usize)
+    }
+}
+
+fn put_offsets(kept: &mut [u8], r: HpsReader)
+    requires { ⌜ Readable r ⌝ }
+{
+    let mut i: usize = 0;
+    while i < r.blocks {
+        let offset = r.offsets[i];
+        put_u32(kept, OFFSETS_AT + 4 * i, offset);
+        i += 1;
+    }
+}
+
+// The file header; the second channel's place has zeros where it is not in use.
+fn put_file(kept: &mut [u8], s: &[u8], count: usize) {
+    if s.len() < FILE_SIZE {
+        return;
+    }
+    if count == 2 {
+        put_bytes(kept, 0, &s[..FILE_SIZE]);
+        return;
+    }
+    put_bytes(kept, 0, &s[..SECOND_AT]);
+    put_zeros(kept, SECOND_AT, 56);
+}
+
+// The record of a slot that was opened.
+pub fn put_opened(kept: &mut [u8], s: &[u8], r: HpsReader)
+    requires { ⌜ Readable r ⌝ }
+{
+    put_file(kept, s, r.count);
+    put_u32(kept, BLOCKS_AT, (r.blocks % 4294967296) as u32);
+    let start = r.loop_start;
+    put_u32(kept, LOOP_AT, loop_number(start));
+    put_offsets(kept, r);
+}
+
+// The offsets of the blocks from one to another, zeros elsewhere.
+fn offsets_in(kept: &[u8], from: usize, to: usize) -> [u32; 512]
+    requires { ⌜ to ≤ 512 ⌝ }
+    ensures { λ r. ⌜ length r ≡ 512 ⌝ }
+{
+    let mut offsets = [0u32; 512];
+    let mut i = from;
+    while i < to {
+        offsets[i] = word(kept, OFFSETS_AT + 4 * i);
+        i += 1;
+    }
+    offsets
+}
+
+fn lesser(a: usize, b: usize) -> usize
+    ensures { λ r. ⌜ r ≤ b ⌝ }
+{
+    if a < b { a } else { b }
+}
+
+// A record of no channel: it stands for bytes that hold no record.
+fn no_reader() -> HpsReader
+    ensures { λ r. ⌜ Readable r ⌝ }
+    ensures { λ r. ⌜ length (r .offsets) ≡ 512 ⌝ }
+{
+    let none = no_channel();
+    let channels = [none; 2];
+    let offsets = [0u32; 512];
+    let loop_start = LoopStart::None;
+    HpsReader {
+        rate: 0,
+        count: 0,
+        channels,
+        blocks: 0,
+        offsets,
+        loop_start,
+    }
+}
+
+// The record that lent bytes hold, one of no channel where they hold none. Whatever they are, it meets the premise of the reading calls.
+// Of the offsets it has those of the blocks from one to another, which are all that the call needs.
+pub fn reader_in(kept: &[u8], from: usize, to: usize) -> HpsReader
+    ensures { λ r. ⌜ Readable r ⌝ }
+    ensures { λ r. ⌜ length (r .offsets) ≡ 512 ⌝ }
+{
+    if kept.len() < OPENED_SIZE {
+        return no_reader();
+    }
+    let count = word(kept, 12) as usize;
+    let blocks = word(kept, BLOCKS_AT) as usize;
+    if count > 2 {
+        return no_reader();
+    }
+    if blocks > 512 {
+        return no_reader();
+    }
+    let left = read_channel(kept, 16);
+    let answer = left.answer;
+    let ChannelAnswer::Value = answer else {
+        return no_reader();
+    };
+    let right = read_channel(kept, 72);
+    let answer = right.answer;
+    let ChannelAnswer::Value = answer else {
+        return no_reader();
+    };
+    let l = left.channel;
+    let r = right.channel;
+    let channels = [l, r];
+    let offsets = offsets_in(kept, from, lesser(to, blocks));
+    let loop_start = loop_of(word(kept, LOOP_AT));
+    HpsReader {
+        rate: word(kept, 8),
+        count,
+        channels,
+        blocks,
+        offsets,
+        loop_start,
+    }
+}

@@ -1,0 +1,63 @@
+use Prim.Native.Nat.{_-_, _≤_}
+use mathlib.Core.Path.{_≡_}
+use native.Mathlib.Omega.{arith}
+use lib.ListN.{length}
+use borrow.Author.Needs.{needs}
+use Rattle.kept_writer.proofs.sides.cues_in.Statement.{statement}
+use Rattle.kept_writer.proofs.sides.cues_in.Tie as tie
+use Rattle.kept_writer.proofs.sides.cues_in.Reads as reads
+use Rattle.kept_writer.proofs.sides.cues_in.Lts as lts
+use Rattle.kept_writer.proofs.sides.cue_in.Reads as cue-in-reads
+
+abbrev Inv-loop : tie.InvT-loop
+Inv-loop s at n cues₀ i₀ cues i = (length cues ≡ 128) × (i ≤ n)
+
+abbrev μ-loop : tie.MeasureT-loop
+μ-loop s at n cues₀ i₀ cues i = n - i
+
+loop-holds : tie.Need-loop-holds Inv-loop μ-loop
+loop-holds c = search needs
+
+mul-cue-in : tie.Need-mul-cue-in Inv-loop μ-loop
+mul-cue-in c = search needs
+
+add-cue-in : tie.Need-add-cue-in Inv-loop μ-loop
+add-cue-in c = search needs
+
+cue-in-requires : tie.Need-cue-in-requires Inv-loop μ-loop
+cue-in-requires c κs = search needs
+
+mul-cues : tie.Need-mul-cues Inv-loop μ-loop
+mul-cues c = search needs
+
+array-set-from-cues : tie.Need-array-set-from-cues Inv-loop μ-loop
+array-set-from-cues c = search needs
+
+add-i : tie.Need-add-i Inv-loop μ-loop
+add-i c = search needs
+
+loop-less : tie.Need-loop-less Inv-loop μ-loop
+loop-less c = search needs
+
+loop-again : tie.Need-loop-again Inv-loop μ-loop
+loop-again c = search needs
+
+returns : tie.Need-returns Inv-loop μ-loop
+returns c = search needs
+
+pub cues-in-spec : {M : Type 1} → statement M
+cues-in-spec =
+    tie.close
+    (tie.spec
+    Inv-loop
+    μ-loop
+    loop-holds
+    mul-cue-in
+    add-cue-in
+    cue-in-requires
+    mul-cues
+    array-set-from-cues
+    add-i
+    loop-less
+    loop-again
+    returns)

@@ -54,15 +54,16 @@ fn same_lines(a: &[u8], r: HpsReader, left: Stage, b: &[u8], q: HpsReader, right
         let two = fill(b, q, there, &mut other);
         let n = one.length;
         let m = two.length;
-        if !same(&out[..n], &other[..m]) {
+        if same(&out[..n], &other[..m]) {
+            if n == 0 {
+                return true;
+            }
+            here = one.stage;
+            there = two.stage;
+            turns += 1;
+        } else {
             return false;
         }
-        if n == 0 {
-            return true;
-        }
-        here = one.stage;
-        there = two.stage;
-        turns += 1;
     }
     false
 }
@@ -71,10 +72,10 @@ fn same_lines(a: &[u8], r: HpsReader, left: Stage, b: &[u8], q: HpsReader, right
 fn stop_number(stage: Stage) -> u32
     ensures { λ r. ⌜ r ≡ stopNumber stage ⌝ }
 {
-    match stage {
-        Stage::Stop(number) => number,
-        _ => 0,
+    if let Stage::Stop(number) = stage {
+        return number;
     }
+    0
 }
 
 // Whether two slots have the same listing.

@@ -72,10 +72,13 @@ fn same_lines(a: &[u8], r: HpsReader, left: Stage, b: &[u8], q: HpsReader, right
 fn stop_number(stage: Stage) -> u32
     ensures { λ r. ⌜ r ≡ stopNumber stage ⌝ }
 {
-    if let Stage::Stop(number) = stage {
-        return number;
+    match stage {
+        Stage::Stop(number) => number,
+        Stage::Head => 0,
+        Stage::Blocks(_) => 0,
+        Stage::Cues(_, _) => 0,
+        Stage::Done => 0,
     }
-    0
 }
 
 // Whether two slots have the same listing.

@@ -24,6 +24,7 @@ use script::text::Words;
 use script::text::line_at;
 use script::text::words_in;
 use stored::part;
+use tearing::least;
 use writer::ChannelBlock;
 use writer::HpsWriter;
 use writer::Looping;
@@ -32,7 +33,8 @@ use writer::Reply;
 use writer::begin;
 use writer::cues::cue;
 ghost use Prim.Native.Nat.{_≤_, _<_};
-ghost use Rattle.cuts.specs.Underway.{Underway};
+ghost use Rattle.writer.specs.Calls.{Good};
+ghost use Rattle.cuts.specs.Underway.{Listed, Underway};
 
 // A lent buffer of 65,536 bytes is long enough for any call: a longer block gets 24 first.
 pub const LENT: usize = 65536;
@@ -116,14 +118,22 @@ fn is_refused(reply: Reply) -> bool {
     }
 }
 
-fn least(a: usize, b: usize) -> usize
-    ensures { λ r. ⌜ r ≤ b ⌝ }
-{
-    if a < b { a } else { b }
-}
-
 fn next_call(n: u64) -> u64 {
     if n < 18446744073709551615 { n + 1 } else { n }
+}
+
+// The loading after a call.
+fn after(st: Loading, writer: HpsWriter, noted: Noted, refused: bool) -> Loading
+    requires { ⌜ Good writer × Listed noted ⌝ }
+    ensures { λ q. ⌜ Underway q ⌝ }
+{
+    Loading {
+        writer,
+        refused,
+        calls: next_call(st.calls),
+        noted,
+        ..st
+    }
 }
 
 // A write is handed out: it is told and noted.
@@ -145,8 +155,6 @@ fn hand_out(
     note(noted, place, bytes, kept)
 }
 
-ghost use Rattle.cuts.specs.Underway.{Listed};
-
 // Begin is call 0. Its refusal is told in every case: it is the whole answer then.
 fn load_begin(
     fd: i32,
@@ -159,35 +167,22 @@ fn load_begin(
     requires { ⌜ Underway st ⌝ }
     ensures { λ q. ⌜ Underway q ⌝ }
 {
-    let n = least(st.lent, lent.len());
     let mode = line.mode;
-    let call = begin(slot, line.channels, mode, &mut lent[..n]);
+    let call = begin(slot, line.channels, mode, lent);
     let reply = call.reply;
     let place = call.place;
     let writer = call.writer;
-    let mut noted = st.noted;
-    let refused = is_refused(reply);
-    if st.say | refused {
+    let before = st.noted;
+    if is_refused(reply) {
+        tell(fd, 0, reply);
+        return after(st, writer, before, true);
+    }
+    if st.say {
         tell(fd, 0, reply);
     }
-    if !refused {
-        noted = hand_out(
-            fd,
-            st.say,
-            0,
-            place,
-            noted,
-            part(lent, 0, place.length),
-            kept,
-        );
-    }
-    Loading {
-        writer,
-        refused,
-        calls: 1,
-        noted,
-        ..st
-    }
+    let bytes = part(lent, 0, place.length);
+    let noted = hand_out(fd, st.say, 0, place, before, bytes, kept);
+    after(st, writer, noted, false)
 }
 
 fn load_cue(fd: i32, st: Loading, line: CueLine) -> Loading
@@ -199,21 +194,17 @@ fn load_cue(fd: i32, st: Loading, line: CueLine) -> Loading
     let call = cue(w, c);
     let reply = call.reply;
     let writer = call.writer;
+    let noted = st.noted;
     if st.say {
         tell(fd, st.calls, reply);
     }
-    Loading {
-        writer,
-        calls: next_call(st.calls),
-        ..st
-    }
+    after(st, writer, noted, false)
 }
 
 fn load_push(fd: i32, st: Loading, data: &[u8], lent: &mut [u8], kept: &mut [u8]) -> Loading
     requires { ⌜ Underway st ⌝ }
     ensures { λ q. ⌜ Underway q ⌝ }
 {
-    let n = least(st.lent, lent.len());
     let w = st.writer;
     let p = st.pushing;
     let left = p.left;
@@ -228,32 +219,21 @@ fn load_push(fd: i32, st: Loading, data: &[u8], lent: &mut [u8], kept: &mut [u8]
         left_data,
         right_data,
         p.last,
-        &mut lent[..n],
+        lent,
     );
     let reply = call.reply;
     let place = call.place;
     let writer = call.writer;
-    let mut noted = st.noted;
+    let before = st.noted;
     if st.say {
         tell(fd, st.calls, reply);
     }
-    if !is_refused(reply) {
-        noted = hand_out(
-            fd,
-            st.say,
-            st.calls,
-            place,
-            noted,
-            part(lent, 0, place.length),
-            kept,
-        );
+    if is_refused(reply) {
+        return after(st, writer, before, false);
     }
-    Loading {
-        writer,
-        calls: next_call(st.calls),
-        noted,
-        ..st
-    }
+    let bytes = part(lent, 0, place.length);
+    let noted = hand_out(fd, st.say, st.calls, place, before, bytes, kept);
+    after(st, writer, noted, false)
 }
 
 // Finish's three writes: their bytes lie in the lent buffer one after the other.
@@ -281,31 +261,27 @@ fn load_finish(fd: i32, st: Loading, lent: &mut [u8], kept: &mut [u8]) -> Loadin
     requires { ⌜ Underway st ⌝ }
     ensures { λ q. ⌜ Underway q ⌝ }
 {
-    let n = least(st.lent, lent.len());
     let w = st.writer;
-    let call = finish(w, &mut lent[..n]);
+    let call = finish(w, lent);
     let reply = call.reply;
     let places = call.places;
     let writer = call.writer;
-    let mut noted = st.noted;
+    let before = st.noted;
     if st.say {
         tell_finish(fd, st.calls, reply);
     }
-    if !is_refused(reply) {
-        noted = hand_out_header(fd, st.say, st.calls, places, noted, lent, kept);
+    if is_refused(reply) {
+        return after(st, writer, before, false);
     }
-    Loading {
-        writer,
-        calls: next_call(st.calls),
-        noted,
-        ..st
-    }
+    let noted = hand_out_header(fd, st.say, st.calls, places, before, lent, kept);
+    after(st, writer, noted, false)
 }
 
 // What a CHAN line says of the push that is being read; a third channel and later ones count for nothing.
 fn with_channel(p: Pushing, block: ChannelBlock, word: &[u8], data: &mut [u8]) -> Pushing {
-    let read = next_call(p.read);
-    match p.read {
+    let which = p.read;
+    let read = next_call(which);
+    match which {
         0 => {
             let left_size = put_data(data, 0, word);
             Pushing {
@@ -347,7 +323,8 @@ fn go_on_pushing(
     next
 }
 
-fn load_line(
+// A line of the script, with the lent buffer that its call gets.
+fn load_kind(
     fd: i32,
     s: &[u8],
     w: Words,
@@ -386,6 +363,23 @@ fn load_line(
     }
 }
 
+fn load_line(
+    fd: i32,
+    s: &[u8],
+    w: Words,
+    st: Loading,
+    slot: usize,
+    data: &mut [u8],
+    lent: &mut [u8],
+    kept: &mut [u8],
+) -> Loading
+    requires { ⌜ Underway st ⌝ }
+    ensures { λ q. ⌜ Underway q ⌝ }
+{
+    let n = least(st.lent, lent.len());
+    load_kind(fd, s, w, st, slot, data, &mut lent[..n], kept)
+}
+
 // No call made yet.
 fn unstarted(say: bool) -> Loading
     ensures { λ q. ⌜ Underway q ⌝ }
@@ -406,22 +400,37 @@ fn unstarted(say: bool) -> Loading
     }
 }
 
-// The calls of a well-formed script, on a slot of this length; a refused begin ends it.
-pub fn load(fd: i32, s: &[u8], slot: usize, say: bool, kept: &mut [u8]) -> Loading
+// The calls from the script's start on; a refused begin ends it.
+fn load_lines(
+    fd: i32,
+    s: &[u8],
+    slot: usize,
+    say: bool,
+    data: &mut [u8],
+    lent: &mut [u8],
+    kept: &mut [u8],
+) -> Loading
     ensures { λ q. ⌜ Underway q ⌝ }
 {
-    let mut data = [0u8; DATA];
-    let mut lent = [0u8; LENT];
     let mut st = unstarted(say);
     let mut at: usize = 0;
     while at < s.len() {
         let here = line_at(s, at);
         let w = words_in(s, at, here.end);
-        st = load_line(fd, s, w, st, slot, &mut data, &mut lent, kept);
+        st = load_line(fd, s, w, st, slot, data, lent, kept);
         if st.refused {
-            break;
+            return st;
         }
         at = here.next;
     }
     st
+}
+
+// The calls of a well-formed script, on a slot of this length.
+pub fn load(fd: i32, s: &[u8], slot: usize, say: bool, kept: &mut [u8]) -> Loading
+    ensures { λ q. ⌜ Underway q ⌝ }
+{
+    let mut data = [0u8; DATA];
+    let mut lent = [0u8; LENT];
+    load_lines(fd, s, slot, say, &mut data, &mut lent, kept)
 }

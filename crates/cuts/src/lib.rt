@@ -10,6 +10,7 @@ use script::whole::wrong_line;
 use tearing::slot_at;
 
 pub mod calls; // calls.rt: the script's calls, and the writes that they hand out
+pub mod files; // files.rt: files by name
 pub mod noted; // noted.rt: writes noted for later
 pub mod times; // times.rt: the runs of moments with the same listing
 
@@ -21,6 +22,13 @@ use times::print_times;
 pub enum Ask {
     All,
     Moment(u64),
+}
+
+fn is_all(ask: Ask) -> bool {
+    match ask {
+        Ask::All => true,
+        Ask::Moment(_) => false,
+    }
 }
 
 // The length that begin is given. A slot that is too long to be listed gets 7, as from `key`.
@@ -48,29 +56,36 @@ fn print_moment(fd: i32, slot: &mut [u8], st: Loading, kept: &[u8], moment: u64)
 
 ghost use Rattle.cuts.specs.Underway.{Underway};
 
+// The listings of every moment. Both buffers hold the earlier slot.
+fn print_answer(fd: i32, slot: &mut [u8], first: &mut [u8], st: Loading, kept: &[u8], ask: Ask)
+    requires { ⌜ Underway st ⌝ }
+{
+    match ask {
+        Ask::All => {
+            let j = st.noted;
+            print_times(fd, slot, first, j, kept);
+        }
+        Ask::Moment(moment) => print_moment(fd, slot, st, kept, moment),
+    }
+}
+
 // The answer on an earlier slot, loaded by a script that is well formed.
 fn answer_loading(fd: i32, earlier: &[u8], text: &[u8], ask: Ask) {
     let mut kept = [0u8; 65664];
-    let say = if let Ask::All = ask { true } else { false };
+    let say = is_all(ask);
     let st = load(fd, text, begun_length(earlier.len()), say, &mut kept);
     if st.refused {
         return;
     }
-    let mut slot = [0u8; KEY_LIMIT];
-    put_bytes(&mut slot, 0, earlier);
     let n = earlier.len();
     if n > KEY_LIMIT {
         return;
     }
-    match ask {
-        Ask::All => {
-            let j = st.noted;
-            let mut first = [0u8; KEY_LIMIT];
-            put_bytes(&mut first, 0, earlier);
-            print_times(fd, &mut slot[..n], &mut first[..n], j, &kept);
-        }
-        Ask::Moment(moment) => print_moment(fd, &mut slot[..n], st, &kept, moment),
-    }
+    let mut slot = [0u8; KEY_LIMIT];
+    put_bytes(&mut slot, 0, earlier);
+    let mut first = [0u8; KEY_LIMIT];
+    put_bytes(&mut first, 0, earlier);
+    print_answer(fd, &mut slot[..n], &mut first[..n], st, &kept, ask);
 }
 
 pub fn answer(fd: i32, earlier: &[u8], text: &[u8], ask: Ask) {

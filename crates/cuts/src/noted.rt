@@ -31,18 +31,18 @@ pub fn note(j: Noted, place: Place, bytes: &[u8], kept: &mut [u8]) -> Noted
     ensures { λ q. ⌜ Listed q ⌝ }
 {
     let i = j.count;
-    if i >= 516 {
-        return j;
+    let at = j.total;
+    if i < 516 {
+        if inside(kept.len(), at, bytes.len()) {
+            put_bytes(kept, at, bytes);
+            let mut places = j.places;
+            places[i] = place;
+            return Noted {
+                count: i + 1,
+                total: at + bytes.len(),
+                places,
+            };
+        }
     }
-    if !inside(kept.len(), j.total, bytes.len()) {
-        return j;
-    }
-    put_bytes(kept, j.total, bytes);
-    let mut places = j.places;
-    places[i] = place;
-    Noted {
-        count: i + 1,
-        total: j.total + bytes.len(),
-        places,
-    }
+    j
 }

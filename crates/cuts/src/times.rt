@@ -7,7 +7,7 @@ use libc::STDERR_FILENO;
 use printing::print_listing;
 use printing::print_numbers;
 use printing::same_listing;
-use stored::part;
+use tearing::least;
 use tearing::reach_next;
 ghost use Rattle.cuts.specs.Underway.{Listed};
 
@@ -89,9 +89,9 @@ pub fn print_times(fd: i32, slot: &mut [u8], first: &mut [u8], j: Noted, kept: &
     let mut i: usize = 0;
     while i < count {
         let place = places[i];
-        let bytes = part(kept, at, place.length);
-        run = through_write(fd, slot, first, run, place.offset, bytes);
-        at = at + bytes.len();
+        let end = at + least(place.length, kept.len() - at);
+        run = through_write(fd, slot, first, run, place.offset, &kept[at..end]);
+        at = end;
         i += 1;
     }
     print_run(fd, run, first);

@@ -17,7 +17,8 @@ pub fn every_moment()
     ensures { λ _. ⌜ EveryMoment ⌝ }
 {}
 
-fn least(a: usize, b: usize) -> usize
+// The smaller of two.
+pub fn least(a: usize, b: usize) -> usize
     ensures { λ r. ⌜ r ≡ min a b ⌝ }
 {
     if a < b { a } else { b }

@@ -4,6 +4,7 @@ use cuts::answer;
 use cuts::files::SCRIPT_LIMIT;
 use cuts::files::read_file;
 use io::buffer;
+use io::read_full;
 use io::write_all;
 use libc::STDERR_FILENO;
 use libc::STDOUT_FILENO;
@@ -35,29 +36,51 @@ fn moment() -> Number {
     unsigned(&word[..n], 18446744073709551615)
 }
 
-// The file that an argument names, into a lent buffer.
-fn read_arg(i: usize, into: &mut [u8]) -> Got {
+// The answer on EARLIER. A slot that is too long is seen to be longer by its last byte.
+fn answer_script(text: &[u8], ask: Ask) {
+    if text.len() > SCRIPT_LIMIT {
+        tell(b"cut: SCRIPT is longer than 1,048,576 bytes\n");
+        return;
+    }
     let mut name = buffer();
-    let n = os::arg(i, &mut name);
-    read_file(&name[..n], into)
+    let k = os::arg(1, &mut name);
+    let mut slot = [0u8; 65537];
+    let earlier = read_file(&name[..k], &mut slot);
+    let n = earlier.length;
+    if earlier.good {
+        answer(STDOUT_FILENO, &slot[..n], text, ask);
+    }
 }
 
-use cuts::files::Got;
+// SCRIPT, opened for reading, or -1.
+fn open_script() -> i32 {
+    let mut name = buffer();
+    let k = os::arg(2, &mut name);
+    let fd = os::open_read(&name[..k]);
+    if fd < 0 {
+        os::fail(&name[..k]);
+    }
+    fd
+}
+
+// Reads SCRIPT into a lent buffer and answers.
+fn read_and_answer(fd: i32, text: &mut [u8], ask: Ask) {
+    let n = read_full(fd, text);
+    answer_script(&text[..n], ask);
+}
+
+// A buffer that is a byte longer than the longest script, by which a longer one is seen.
+fn answer_in(fd: i32, text: &mut [u8; 1048577], ask: Ask) {
+    read_and_answer(fd, text, ask);
+}
 
 fn run(ask: Ask) {
-    let mut slot = [0u8; 65537];
-    let mut text = [0u8; 1048577];
-    let earlier = read_arg(1, &mut slot);
-    let script = read_arg(2, &mut text);
-    if earlier.good & script.good {
-        let n = earlier.length;
-        let m = script.length;
-        if m > SCRIPT_LIMIT {
-            tell(b"cut: SCRIPT is longer than 1,048,576 bytes\n");
-            return;
-        }
-        answer(STDOUT_FILENO, &slot[..n], &text[..m], ask);
+    let fd = open_script();
+    if fd < 0 {
+        return;
     }
+    let mut text = [0u8; 1048577];
+    answer_in(fd, &mut text, ask);
 }
 
 fn main() {

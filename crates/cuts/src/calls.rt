@@ -426,11 +426,26 @@ fn load_lines(
     st
 }
 
+// The same with arrays for the buffers: of arrays that are lent whole no proof goes through their elements.
+fn load_in(
+    fd: i32,
+    s: &[u8],
+    slot: usize,
+    say: bool,
+    data: &mut [u8; DATA],
+    lent: &mut [u8; LENT],
+    kept: &mut [u8],
+) -> Loading
+    ensures { λ q. ⌜ Underway q ⌝ }
+{
+    load_lines(fd, s, slot, say, data, lent, kept)
+}
+
 // The calls of a well-formed script, on a slot of this length.
 pub fn load(fd: i32, s: &[u8], slot: usize, say: bool, kept: &mut [u8]) -> Loading
     ensures { λ q. ⌜ Underway q ⌝ }
 {
     let mut data = [0u8; DATA];
     let mut lent = [0u8; LENT];
-    load_lines(fd, s, slot, say, &mut data, &mut lent, kept)
+    load_in(fd, s, slot, say, &mut data, &mut lent, kept)
 }

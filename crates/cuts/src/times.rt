@@ -1,18 +1,12 @@
 // The runs of moments with the same listing.
 use crate::noted::Noted;
-use io::print_decimal;
-use io::write_all;
 use layout::puts::put_bytes;
-use libc::STDERR_FILENO;
 use printing::print_listing;
 use printing::print_numbers;
 use printing::same_listing;
 use tearing::least;
 use tearing::reach_next;
 ghost use Rattle.cuts.specs.Underway.{Listed};
-
-// How many moments pass between two words on the progress.
-const PROGRESS: u64 = 16384;
 
 // The first moment of the run, and the moment that the slot is at.
 struct Run {
@@ -23,14 +17,6 @@ struct Run {
 fn print_run(fd: i32, run: Run, first: &[u8]) {
     print_numbers(fd, b"TIME", &[run.from, run.now]);
     print_listing(fd, first);
-}
-
-fn tell_progress(now: u64) {
-    if now % PROGRESS == 0 {
-        write_all(STDERR_FILENO, b"cut: at moment ");
-        print_decimal(STDERR_FILENO, now);
-        write_all(STDERR_FILENO, b"\n");
-    }
 }
 
 // One byte more of a write reaches the slot. The other buffer has the slot at the run's first moment.
@@ -49,7 +35,6 @@ fn next_moment(
     } else {
         run.now
     };
-    tell_progress(now);
     if same_listing(first, slot) {
         return Run {
             from: run.from,

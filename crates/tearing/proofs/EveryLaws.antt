@@ -14,7 +14,9 @@ use Rattle.layout.specs.Types.{Bytes}
 use Rattle.layout.proofs.Cases.{by-cases}
 use Rattle.layout.proofs.PutLaws.{put-length, put-none}
 use Rattle.writer.specs.WritesAndCuttingRule.{Write, write, carried, CutLeaves, ended, torn, old, took}
-use Rattle.tearing.specs.Moments.{reached, slotAt, takenAt, Inside, EveryMoment}
+use Rattle.power_cut.specs.PowerCut.{PowerCut}
+use Rattle.power_cut.proofs.Whole.{power-cut}
+use Rattle.tearing.specs.Moments.{reached, slotAt, takenAt, Inside, EveryMoment, PowerCutAtMoments}
 use Rattle.tearing.proofs.ByteLaws.{bytes-take, bytes-drop, bytes-append, bytes-put}
 use Rattle.tearing.proofs.MomentLaws.{reached-in}
 
@@ -82,3 +84,8 @@ every s b (w ∷ ws) (more i a) m =
 pub every-moment : EveryMoment
 unfolding EveryMoment
 every-moment = every
+
+pub at-moments : PowerCutAtMoments
+unfolding PowerCutAtMoments PowerCut
+at-moments earlier s ch c mode lent l a calls t i m =
+    power-cut earlier s ch c mode lent l .2 a calls t .cut (takenAt _ m) (slotAt earlier _ m) (every earlier (s .bytes) _ i m)

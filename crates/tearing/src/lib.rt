@@ -7,7 +7,7 @@ ghost use mathlib.Core.List.{List};
 ghost use Prim.Native.Nat.{ℕ, _+_, _≤_, min};
 ghost use lib.ListN.{length, take};
 ghost use Rattle.writer.specs.WritesAndCuttingRule.{write, writesIn};
-ghost use Rattle.tearing.specs.Moments.{reached, slotAt, EveryMoment};
+ghost use Rattle.tearing.specs.Moments.{reached, slotAt, EveryMoment, PowerCutAtMoments};
 
 // As many writes as a loading hands out: begin's, 512 blocks, finish's three.
 pub const MOST_WRITES: usize = 516;
@@ -15,6 +15,11 @@ pub const MOST_WRITES: usize = 516;
 // Every moment is one of the cuts that the theorems speak of.
 pub fn every_moment()
     ensures { λ _. ⌜ EveryMoment ⌝ }
+{}
+
+// So the power cut says what opens at every moment of a loading.
+pub fn power_cut_at_moments()
+    ensures { λ _. ⌜ PowerCutAtMoments ⌝ }
 {}
 
 // The smaller of two.

@@ -1,0 +1,100 @@
+// The marking key of every moment of a loading; `help` says how it is used.
+use cuts::Ask;
+use cuts::answer;
+use cuts::files::SCRIPT_LIMIT;
+use cuts::files::read_file;
+use io::buffer;
+use io::read_full;
+use io::write_all;
+use libc::STDERR_FILENO;
+use libc::STDOUT_FILENO;
+use script::numbers::Number;
+use script::numbers::unsigned;
+
+fn tell(text: &[u8]) {
+    write_all(STDERR_FILENO, text);
+}
+
+fn help() {
+    tell(
+        b"cut EARLIER SCRIPT           each call's answer and writes, then the listing of every moment
+cut EARLIER SCRIPT MOMENT    the listing of one moment
+
+EARLIER has the slot's earlier content, 192 to 65,536 bytes; SCRIPT the loading calls, one a line.
+A moment is the number of bytes of all writes, in order, that had reached the slot when the power
+failed. So moments are prefixes; the theorem, PowerCut, covers any tearing: it says what the slot
+opens to whatever values the write under way has left in its range.
+docs/GUIDE.md has the script's words.
+",
+    );
+}
+
+// The argument MOMENT.
+fn moment() -> Number {
+    let mut word = buffer();
+    let n = os::arg(3, &mut word);
+    unsigned(&word[..n], 18446744073709551615)
+}
+
+// The answer on EARLIER. A slot that is too long is seen to be longer by its last byte.
+fn answer_script(text: &[u8], ask: Ask) {
+    if text.len() > SCRIPT_LIMIT {
+        tell(b"cut: SCRIPT is longer than 1,048,576 bytes\n");
+        return;
+    }
+    let mut name = buffer();
+    let k = os::arg(1, &mut name);
+    let mut slot = [0u8; 65537];
+    let earlier = read_file(&name[..k], &mut slot);
+    let n = earlier.length;
+    if earlier.good {
+        answer(STDOUT_FILENO, &slot[..n], text, ask);
+    }
+}
+
+// SCRIPT, opened for reading, or -1.
+fn open_script() -> i32 {
+    let mut name = buffer();
+    let k = os::arg(2, &mut name);
+    let fd = os::open_read(&name[..k]);
+    if fd < 0 {
+        os::fail(&name[..k]);
+    }
+    fd
+}
+
+// Reads SCRIPT into a lent buffer and answers.
+fn read_and_answer(fd: i32, text: &mut [u8], ask: Ask) {
+    let n = read_full(fd, text);
+    answer_script(&text[..n], ask);
+}
+
+// A buffer that is a byte longer than the longest script, by which a longer one is seen.
+fn answer_in(fd: i32, text: &mut [u8; 1048577], ask: Ask) {
+    read_and_answer(fd, text, ask);
+}
+
+fn run(ask: Ask) {
+    let fd = open_script();
+    if fd < 0 {
+        return;
+    }
+    let mut text = [0u8; 1048577];
+    answer_in(fd, &mut text, ask);
+}
+
+fn main() {
+    let count = os::arg_count();
+    if count == 3 {
+        run(Ask::All);
+        return;
+    }
+    if count == 4 {
+        let m = moment();
+        if m.good {
+            run(Ask::Moment(m.value));
+            return;
+        }
+    }
+    help();
+}

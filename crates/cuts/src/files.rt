@@ -1,0 +1,29 @@
+// Files by name.
+use io::read_full;
+ghost use Rattle.io.specs.Counts.{Counts};
+
+// The longest script.
+pub const SCRIPT_LIMIT: usize = 1048576;
+
+// Whether the file could be opened, and how many bytes of it stand in the lent buffer.
+pub struct Got {
+    pub good: bool,
+    pub length: usize,
+}
+
+// As much of a file as a lent buffer holds. What goes wrong is told on standard error.
+pub fn read_file(path: &[u8], into: &mut [u8]) -> Got
+    ensures { λ r. ⌜ Counts (r .length) (now (into .exit)) ⌝ }
+{
+    let fd = os::open_read(path);
+    if fd < 0 {
+        os::fail(path);
+        return Got {
+            good: false,
+            length: 0,
+        };
+    }
+    let length = read_full(fd, into);
+    libc::close(fd);
+    Got { good: true, length }
+}

@@ -1,0 +1,62 @@
+// The examples: each is answered into a file and held to its listing. Prints a line for each.
+use check::same;
+use cuts::Ask;
+use cuts::answer;
+use cuts::files::read_file;
+use io::write_all;
+use libc::STDOUT_FILENO;
+
+// As long as the longest listing, and a byte more.
+const LISTED: usize = 65536;
+
+// Whether two files, which are shorter than that, are the same.
+fn same_files(one: &[u8], two: &[u8]) -> bool {
+    let mut here = [0u8; LISTED];
+    let mut there = [0u8; LISTED];
+    let a = read_file(one, &mut here);
+    let b = read_file(two, &mut there);
+    let n = a.length;
+    let m = b.length;
+    if a.good & b.good {
+        return same(&here[..n], &there[..m]);
+    }
+    false
+}
+
+fn write_answer(earlier: &[u8], script: &[u8], ask: Ask) {
+    let fd = os::open_overwrite(b"answer");
+    answer(fd, earlier, script, ask);
+    libc::close(fd);
+}
+
+fn run(slot: &[u8], script: &[u8], listing: &[u8], ask: Ask) {
+    let mut earlier = [0u8; 65537];
+    let mut text = [0u8; 65536];
+    let one = read_file(slot, &mut earlier);
+    let two = read_file(script, &mut text);
+    let n = one.length;
+    let m = two.length;
+    write_answer(&earlier[..n], &text[..m], ask);
+    write_all(STDOUT_FILENO, listing);
+    if same_files(b"answer", listing) {
+        write_all(STDOUT_FILENO, b" same\n");
+    } else {
+        write_all(STDOUT_FILENO, b" other\n");
+    }
+}
+
+fn main() {
+    run(b"noise.slot", b"stereo.script", b"stereo.listing", Ask::All);
+    run(
+        b"noise.slot",
+        b"refused.script",
+        b"refused.listing",
+        Ask::All,
+    );
+    run(
+        b"noise.slot",
+        b"stereo.script",
+        b"stereo.385.listing",
+        Ask::Moment(385),
+    );
+}

@@ -1,0 +1,242 @@
+// What each kind of line says. A line's last word stands at one below its count.
+use crate::hex::is_data;
+use crate::numbers::signed;
+use crate::numbers::unsigned;
+use crate::text::Words;
+use crate::text::word;
+use check::same;
+use layout::FrameContext;
+use writer::ChannelBlock;
+use writer::Cue;
+use writer::CueKind;
+use writer::Looping;
+
+const U64: u64 = 18446744073709551615;
+
+const U32: u64 = 4294967295;
+
+const U16: u64 = 65535;
+
+// What a line's first word says it is; nothing is a line with no word.
+pub enum Kind {
+    Nothing,
+    Begin,
+    Point,
+    Loop,
+    Range,
+    Push,
+    Channel,
+    Finish,
+    Lent,
+    Unknown,
+}
+
+pub struct BeginLine {
+    pub good: bool,
+    pub channels: usize,
+    pub mode: Looping,
+}
+
+pub struct CueLine {
+    pub good: bool,
+    pub cue: Cue,
+}
+
+pub struct PushLine {
+    pub good: bool,
+    pub channels: u64,
+    pub last: bool,
+}
+
+pub struct ChannelLine {
+    pub good: bool,
+    pub block: ChannelBlock,
+}
+
+pub struct LentLine {
+    pub good: bool,
+    pub length: u64,
+}
+
+// The kind that a first word names.
+fn named(name: &[u8]) -> Kind {
+    if same(name, b"BEGN") {
+        return Kind::Begin;
+    }
+    if same(name, b"CUEP") {
+        return Kind::Point;
+    }
+    if same(name, b"LOOP") {
+        return Kind::Loop;
+    }
+    if same(name, b"CUER") {
+        return Kind::Range;
+    }
+    if same(name, b"PUSH") {
+        return Kind::Push;
+    }
+    if same(name, b"CHAN") {
+        return Kind::Channel;
+    }
+    if same(name, b"FINI") {
+        return Kind::Finish;
+    }
+    if same(name, b"LENT") {
+        return Kind::Lent;
+    }
+    Kind::Unknown
+}
+
+// How many words a line of this kind has.
+fn words_of(kind: Kind) -> usize {
+    match kind {
+        Kind::Begin => 3,
+        Kind::Point => 3,
+        Kind::Loop => 3,
+        Kind::Range => 4,
+        Kind::Push => 3,
+        Kind::Channel => 24,
+        Kind::Finish => 1,
+        Kind::Lent => 2,
+        Kind::Nothing => 0,
+        Kind::Unknown => 0,
+    }
+}
+
+// A line with a word missing or one too many is unknown.
+pub fn kind_of(s: &[u8], w: Words) -> Kind {
+    if w.count == 0 {
+        return Kind::Nothing;
+    }
+    let kind = named(word(s, w, 0));
+    if w.count == words_of(kind) {
+        return kind;
+    }
+    Kind::Unknown
+}
+
+fn mode_of(n: u64) -> Looping {
+    match n {
+        0 => Looping::Disabled,
+        1 => Looping::Enabled,
+        _ => Looping::Auto,
+    }
+}
+
+// BEGN channels mode
+pub fn begin_line(s: &[u8], w: Words) -> BeginLine {
+    let channels = unsigned(word(s, w, 1), U64);
+    let mode = unsigned(word(s, w, 2), 2);
+    BeginLine {
+        good: channels.good & mode.good,
+        channels: channels.value as usize,
+        mode: mode_of(mode.value),
+    }
+}
+
+fn cue_at(s: &[u8], w: Words, kind: CueKind, name: usize) -> CueLine {
+    let start = unsigned(word(s, w, 1), U64);
+    let id = unsigned(word(s, w, name), U32);
+    CueLine {
+        good: start.good & id.good,
+        cue: Cue {
+            start: start.value,
+            kind,
+            name: id.value as u32,
+        },
+    }
+}
+
+// CUEP start name
+pub fn point_line(s: &[u8], w: Words) -> CueLine {
+    cue_at(s, w, CueKind::Point, 2)
+}
+
+// LOOP start name
+pub fn loop_line(s: &[u8], w: Words) -> CueLine {
+    cue_at(s, w, CueKind::Loop, 2)
+}
+
+// CUER start length name
+pub fn range_line(s: &[u8], w: Words) -> CueLine {
+    let length = unsigned(word(s, w, 2), U64);
+    let line = cue_at(s, w, CueKind::Range(length.value), 3);
+    let cue = line.cue;
+    CueLine {
+        good: line.good & length.good,
+        cue,
+    }
+}
+
+// PUSH channels last
+pub fn push_line(s: &[u8], w: Words) -> PushLine {
+    let channels = unsigned(word(s, w, 1), U64);
+    let last = unsigned(word(s, w, 2), 1);
+    PushLine {
+        good: channels.good & last.good,
+        channels: channels.value,
+        last: last.value == 1,
+    }
+}
+
+// LENT n
+pub fn lent_line(s: &[u8], w: Words) -> LentLine {
+    let length = unsigned(word(s, w, 1), U64);
+    LentLine {
+        good: length.good,
+        length: length.value,
+    }
+}
+
+// CHAN's numbers but the coefficients: rate length gain ps s0 s1.
+fn side_of(s: &[u8], w: Words, coefficients: [i16; 16]) -> ChannelLine {
+    let rate = unsigned(word(s, w, 1), U32);
+    let length = unsigned(word(s, w, 2), U64);
+    let gain = unsigned(word(s, w, 3), U16);
+    let scale = unsigned(word(s, w, 4), U16);
+    let newer = signed(word(s, w, 5));
+    let older = signed(word(s, w, 6));
+    let last = newer.value;
+    let oldest = older.value;
+    let context = FrameContext {
+        predictor_and_scale: scale.value as u16,
+        last,
+        oldest,
+    };
+    let block = ChannelBlock {
+        rate: rate.value as u32,
+        length: length.value as usize,
+        coefficients,
+        gain: gain.value as u16,
+        context,
+    };
+    ChannelLine {
+        good: rate.good & length.good & gain.good & scale.good & newer.good & older.good,
+        block,
+    }
+}
+
+// CHAN rate length gain ps s0 s1 c0 .. c15 HEX
+pub fn channel_line(s: &[u8], w: Words) -> ChannelLine {
+    let mut coefficients = [0i16; 16];
+    let mut good = is_data(data_word(s, w));
+    let mut i: usize = 0;
+    while i < 16 {
+        let c = signed(word(s, w, 7 + i));
+        good = good & c.good;
+        let value = c.value;
+        coefficients[i] = value;
+        i += 1;
+    }
+    let line = side_of(s, w, coefficients);
+    let block = line.block;
+    ChannelLine {
+        good: good & line.good,
+        block,
+    }
+}
+
+// CHAN's data, as text.
+pub fn data_word<'a>(s: &'a [u8], w: Words) -> &'a [u8] {
+    word(s, w, 23)
+}

@@ -1,0 +1,3 @@
+pub mod ByteLaws
+pub mod MomentLaws
+pub mod EveryLaws

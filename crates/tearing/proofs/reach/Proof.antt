@@ -1,0 +1,53 @@
+use mathlib.Core.Path.{sym}
+use native.Mathlib.Omega.{arith}
+use lib.Seq.{length-take-le}
+use Rattle.layout.proofs.FieldLaws.{passed, failed}
+use Rattle.tearing.proofs.MomentLaws.{reached-by, reached-out}
+use borrow.Author.Needs.{needs}
+use Rattle.tearing.proofs.reach.Statement.{statement}
+use Rattle.tearing.proofs.reach.Tie as tie
+use Rattle.tearing.proofs.reach.Reads as reads
+use Rattle.tearing.proofs.reach.Lts as lts
+use Rattle.layout.proofs.fields.inside.Reads as inside-reads
+use Rattle.puts.proofs.put_bytes.Reads as put-bytes-reads
+use Rattle.tearing.proofs.least.Reads as least-reads
+
+-- src/lib.rt:30:8
+inside-requires : tie.Need-inside-requires
+inside-requires c κs = search needs
+
+-- src/lib.rt:31:13
+least-requires : tie.Need-least-requires
+least-requires c κs = search needs
+
+-- src/lib.rt:32:29
+slice-aggregate-put-bytes : tie.Need-slice-aggregate-put-bytes
+slice-aggregate-put-bytes c = sym (length-take-le _ _ (omega (arith, c .before .before .least .ensures)))
+
+-- src/lib.rt:32:9
+put-bytes-requires : tie.Need-put-bytes-requires
+put-bytes-requires c κs = search needs
+
+-- src/lib.rt:27:1
+same-length : tie.Need-same-length
+same-length c = search needs
+
+-- src/lib.rt:27:1
+returns : tie.Need-returns
+returns c = reached-by _ _ _ _ (c .before .before .before .before .before .least .ensures) (passed (c .before .before .before .before .before .before .before .inside .ensures) (c .before .before .before .before .before .before .if1 .taken)) (c .before .before .put-bytes .ensures)
+
+-- src/lib.rt:27:1
+returns-2 : tie.Need-returns-2
+returns-2 c = sym (reached-out _ _ _ _ (failed (c .before .inside .ensures) (c .if1 .left)))
+
+pub reach-spec : {M : Type 1} → statement M
+reach-spec =
+    tie.close
+    (tie.spec
+    inside-requires
+    least-requires
+    slice-aggregate-put-bytes
+    put-bytes-requires
+    same-length
+    returns
+    returns-2)

@@ -1,0 +1,74 @@
+// What a power cut leaves of the writes, moment by moment.
+use layout::fields::inside;
+use puts::put_bytes;
+use writer::Place;
+ghost use mathlib.Core.Path.{_≡_};
+ghost use mathlib.Core.List.{List};
+ghost use Prim.Native.Nat.{ℕ, _+_, _≤_, min};
+ghost use lib.ListN.{length, take};
+ghost use Rattle.writer.specs.WritesAndCuttingRule.{write, writesIn};
+ghost use Rattle.tearing.specs.Moments.{reached, slotAt, EveryMoment, PowerCutAtMoments};
+
+// As many writes as a loading hands out: begin's, 512 blocks, finish's three.
+pub const MOST_WRITES: usize = 516;
+
+// Every moment is one of the cuts that the theorems speak of.
+pub fn every_moment()
+    ensures { λ _. ⌜ EveryMoment ⌝ }
+{}
+
+// So the power cut says what opens at every moment of a loading.
+pub fn power_cut_at_moments()
+    ensures { λ _. ⌜ PowerCutAtMoments ⌝ }
+{}
+
+// The smaller of two.
+pub fn least(a: usize, b: usize) -> usize
+    ensures { λ r. ⌜ r ≡ min a b ⌝ }
+{
+    if a < b { a } else { b }
+}
+
+// The first n bytes of a write reach the slot.
+pub fn reach(slot: &mut [u8], at: usize, bytes: &[u8], n: usize)
+    ensures { λ _. ⌜ now (slot .exit) ≡ reached (now (slot .entry)) (write at (now (bytes .entry))) n ⌝ }
+{
+    if inside(slot.len(), at, bytes.len()) {
+        let m = least(n, bytes.len());
+        put_bytes(slot, at, &bytes[..m]);
+    }
+}
+
+// One byte more, where the first k have reached the slot.
+pub fn reach_next(slot: &mut [u8], at: usize, bytes: &[u8], k: usize)
+    ensures { λ _. ⌜ ((s : List ℕ) → now (slot .entry) ≡ reached s (write at (now (bytes .entry))) k → now (slot .exit) ≡ reached s (write at (now (bytes .entry))) (k + 1)) ⌝ }
+{
+    if inside(slot.len(), at, bytes.len()) {
+        if k < bytes.len() {
+            slot[at + k] = bytes[k];
+        }
+    }
+}
+
+// The slot at a moment of the first writes of a list, whose bytes lie one after the other.
+pub fn slot_at(slot: &mut [u8], places: [Place; 516], count: usize, bytes: &[u8], moment: usize)
+    requires { ⌜ count ≤ 516 ⌝ }
+    ensures { λ _. ⌜ now (slot .exit) ≡ slotAt (now (slot .entry)) (writesIn (take count places) (now (bytes .entry))) moment ⌝ }
+{
+    let mut i: usize = 0;
+    let mut at: usize = 0;
+    let mut left = moment;
+    while i < count {
+        let place = places[i];
+        let size = least(place.length, bytes.len() - at);
+        let end = at + size;
+        if left < size {
+            reach(slot, place.offset, &bytes[at..end], left);
+            return;
+        }
+        reach(slot, place.offset, &bytes[at..end], size);
+        left -= size;
+        at = end;
+        i += 1;
+    }
+}

@@ -14,11 +14,14 @@ use Rattle.layout.specs.Types.{Bytes}
 use Rattle.layout.proofs.Cases.{by-cases}
 use Rattle.puts.proofs.PutLaws.{put-length, put-none}
 use Rattle.writer.specs.WritesAndCuttingRule.{Write, write, carried, CutLeaves, ended, torn, old, took}
-use Rattle.power_cut.specs.PowerCut.{PowerCut}
-use Rattle.power_cut.proofs.Whole.{power-cut}
+use Rattle.power_cut.specs.LoadingBook.{begun}
+use Rattle.power_cut.specs.PowerCut.{begin, allWrites, PowerCut}
+use Rattle.power_cut.proofs.Follow.{begin-accepted}
+use Rattle.power_cut.proofs.Whole.{power-cut, kept0, writes-is}
 use Rattle.tearing.specs.Moments.{reached, slotAt, takenAt, Inside, EveryMoment, PowerCutAtMoments}
 use Rattle.tearing.proofs.ByteLaws.{bytes-take, bytes-drop, bytes-append, bytes-put}
 use Rattle.tearing.proofs.MomentLaws.{reached-in}
+use Rattle.tearing.proofs.WriteLaws.{run-inside}
 
 -- ---- The write under way
 
@@ -87,5 +90,8 @@ every-moment = every
 
 pub at-moments : PowerCutAtMoments
 unfolding PowerCutAtMoments PowerCut
-at-moments earlier s ch c mode lent l a calls t i m =
-    power-cut earlier s ch c mode lent l .2 a calls t .cut (takenAt _ m) (slotAt earlier _ m) (every earlier (s .bytes) _ i m)
+at-moments earlier s ch c mode lent l a calls t m =
+    let begins = begin-accepted (length earlier) ch mode lent a in
+    let inside : All (Inside (length earlier)) (allWrites (begin (length earlier) ch mode lent) calls) =
+    rw (writes-is earlier ch mode lent begins calls t) (run-inside (begun (length earlier) ch mode) calls t (kept0 earlier ch mode lent begins calls t) refl) in
+    power-cut earlier s ch c mode lent l .2 a calls t .cut (takenAt _ m) (slotAt earlier _ m) (every earlier (s .bytes) _ inside m)

@@ -1,3 +1,4 @@
 pub mod ByteLaws
 pub mod MomentLaws
+pub mod WriteLaws
 pub mod EveryLaws

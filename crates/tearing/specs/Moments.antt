@@ -38,11 +38,10 @@ pub record Inside (n : ℕ) (w : Write) : Type 0 where
 unfoldable pub EveryMoment : Type 0
 EveryMoment = (s : List ℕ) → Bytes s → (ws : List Write) → All (Inside (length s)) ws → (m : ℕ) → CutLeaves s ws (takenAt ws m) (slotAt s ws m)
 
--- So the power cut speaks of every moment of a loading: what `cut` lists at a moment is the slot of which it says what opens. (The writes of a loading lie in the slot, and
--- their bytes are those of lent buffers.)
+-- So the power cut speaks of every moment of a loading: what `cut` lists at a moment is the slot of which it says what opens.
 unfoldable pub PowerCutAtMoments : Type 0
 PowerCutAtMoments =
     (earlier : List ℕ) → Slice earlier → (channels : ℕ) → channels < 18446744073709551616 → (mode : Looping) (lent : List ℕ) → Slice lent
     → (let o = begin (length earlier) channels mode lent in
-    o .answer ≡ accepted 0 → (calls : List Call) → All Typed calls → All (Inside (length earlier)) (allWrites o calls)
+    o .answer ≡ accepted 0 → (calls : List Call) → All Typed calls
     → (m : ℕ) → AfterCut earlier (bookRun (begun (length earlier) channels mode) calls) (allWrites o calls) (takenAt (allWrites o calls) m) (slotAt earlier (allWrites o calls) m))

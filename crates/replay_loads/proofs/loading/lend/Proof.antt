@@ -1,12 +1,12 @@
 use mathlib.Core.Path.{sym}
 use lib.Seq.{length-take-le}
 use borrow.Author.Needs.{needs}
-use Rattle.replay.proofs.loading.lend.Statement.{statement}
-use Rattle.replay.proofs.loading.lend.Tie as tie
-use Rattle.replay.proofs.loading.lend.Reads as reads
-use Rattle.replay.proofs.loading.lend.Lts as lts
-use Rattle.replay.proofs.loading.run_call.Reads as run-call-reads
-use Rattle.replay.proofs.values.size.Reads as size-reads
+use Rattle.replay_loads.proofs.loading.lend.Statement.{statement}
+use Rattle.replay_loads.proofs.loading.lend.Tie as tie
+use Rattle.replay_loads.proofs.loading.lend.Reads as reads
+use Rattle.replay_loads.proofs.loading.lend.Lts as lts
+use Rattle.replay_loads.proofs.loading.run_call.Reads as run-call-reads
+use Rattle.stored.proofs.size.Reads as size-reads
 
 -- src/loading.rt:283:9
 size-requires : tie.Need-size-requires

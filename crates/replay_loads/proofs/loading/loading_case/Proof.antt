@@ -4,13 +4,13 @@ use native.Mathlib.Omega.{arith}
 use lib.ListN.{length}
 use borrow.Author.Needs.{needs}
 use Rattle.writer.specs.Calls.{Good}
-use Rattle.replay.proofs.loading.loading_case.Statement.{statement}
-use Rattle.replay.proofs.loading.loading_case.Tie as tie
-use Rattle.replay.proofs.loading.loading_case.Reads as reads
-use Rattle.replay.proofs.loading.loading_case.Lts as lts
-use Rattle.replay.proofs.loading.run_step.Reads as run-step-reads
+use Rattle.replay_loads.proofs.loading.loading_case.Statement.{statement}
+use Rattle.replay_loads.proofs.loading.loading_case.Tie as tie
+use Rattle.replay_loads.proofs.loading.loading_case.Reads as reads
+use Rattle.replay_loads.proofs.loading.loading_case.Lts as lts
+use Rattle.replay_loads.proofs.loading.run_step.Reads as run-step-reads
 use Rattle.stored.proofs.part.Reads as part-reads
-use Rattle.replay.proofs.values.size.Reads as size-reads
+use Rattle.stored.proofs.size.Reads as size-reads
 use Rattle.writer.proofs.begin.Reads as begin-reads
 
 abbrev Inv-loop : tie.InvT-loop

@@ -1,9 +1,5 @@
 // A stream loaded through begin, cue, push and finish, with calls among them that are refused, held to recorded answers and bytes. After each write the slot is
 // opened: up to finish's last write with 2 or 3, then as a stream.
-use crate::values::half;
-use crate::values::long;
-use crate::values::signed;
-use crate::values::size;
 use block_writer::push::push;
 use check::same;
 use header_writer::finish::finish;
@@ -12,8 +8,12 @@ use layout::fields::inside;
 use puts::put_bytes;
 use reader::opening::OpenReply;
 use reader::opening::open;
+use stored::half;
+use stored::long;
 use stored::number;
 use stored::part;
+use stored::signed;
+use stored::size;
 use writer::ChannelBlock;
 use writer::Cue;
 use writer::CueKind;
@@ -72,7 +72,7 @@ fn side(s: &[u8], at: usize) -> ChannelBlock
     };
     ChannelBlock {
         rate: number(s, at),
-        length: number(s, at + 4) as usize,
+        length: size(s, at + 4),
         coefficients,
         gain: half(s, at + 40),
         context,

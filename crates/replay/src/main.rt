@@ -5,6 +5,7 @@ use crate::estimates::estimate_case;
 use crate::slot::slot_case;
 use io::read_full;
 use libc::STDIN_FILENO;
+use stored::input_room;
 use stored::number;
 use stored::part;
 use stored::size;
@@ -43,7 +44,7 @@ fn run(all: &[u8]) {
 }
 
 fn main() {
-    let mut input = [0u8; 600000];
+    let mut input = input_room();
     let n = read_full(STDIN_FILENO, &mut input);
     run(&input[..n]);
 }

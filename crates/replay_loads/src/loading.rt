@@ -24,6 +24,8 @@ use writer::Reply;
 use writer::begin;
 use writer::cues::cue;
 ghost use Prim.Native.Nat.{_<_};
+ghost use mathlib.Core.Path.{_≡_};
+ghost use lib.ListN.{length};
 ghost use Rattle.writer.specs.Calls.{Good};
 
 const STEPS: usize = 3000;
@@ -289,17 +291,15 @@ fn run_step(step: &[u8], w: HpsWriter, slot: &mut [u8], lent: &mut [u8]) -> Left
 }
 
 // Steps one after the other, each with its length before it. Gives 0, or 1 and the number of the first that went another way; 1 where there is none.
-pub fn loading_case(body: &[u8]) -> usize {
-    let mut slot = [0u8; SLOT];
-    let mut lent = [7u8; LENT];
-    let none = begin(0, 0, Looping::Auto, &mut lent);
-    let mut w = none.writer;
+fn other_step(body: &[u8], begun: HpsWriter, slot: &mut [u8], lent: &mut [u8]) -> usize
+    requires { ⌜ Good begun ⌝ }
+{
+    let mut w = begun;
     let mut at: usize = 0;
     let mut steps: usize = 0;
     while steps < STEPS {
         let n = size(body, at);
-        let step = part(body, at + 4, n);
-        let left = run_step(step, w, &mut slot, &mut lent);
+        let left = run_step(part(body, at + 4, n), w, slot, lent);
         if !left.good {
             return 1 + steps;
         }
@@ -311,4 +311,24 @@ pub fn loading_case(body: &[u8]) -> usize {
         steps += 1;
     }
     1 + steps
+}
+
+fn empty_slot() -> [u8; SLOT]
+    ensures { λ r. ⌜ 262144 ≡ length r ⌝ }
+{
+    [0; SLOT]
+}
+
+fn lent_buffer() -> [u8; LENT]
+    ensures { λ r. ⌜ 66592 ≡ length r ⌝ }
+{
+    [7; LENT]
+}
+
+// The steps over a slot of zeros, before any begin.
+pub fn loading_case(body: &[u8]) -> usize {
+    let mut slot = empty_slot();
+    let mut lent = lent_buffer();
+    let none = begin(0, 0, Looping::Auto, &mut lent);
+    other_step(body, none.writer, &mut slot, &mut lent)
 }

@@ -11,7 +11,15 @@ pub mod told; // told.rt: what is printed of a case
 
 ghost use Prim.Native.Nat.{_<_};
 ghost use mathlib.Core.Path.{_≡_};
+ghost use lib.ListN.{length};
 ghost use Rattle.stored.specs.Stored.{partAt, numberAt, halfAt, signedAt, longAt};
+
+// Room for the longest input.
+pub fn input_room() -> [u8; 600000]
+    ensures { λ r. ⌜ 600000 ≡ length r ⌝ }
+{
+    [0; 600000]
+}
 
 // n bytes from at on.
 pub fn part<'a>(s: &'a [u8], at: usize, n: usize) -> &'a [u8]

@@ -23,7 +23,7 @@ use writer::Place;
 use writer::Reply;
 use writer::begin;
 use writer::cues::cue;
-ghost use Prim.Native.Nat.{_<_};
+ghost use Prim.Native.Nat.{_<_, _≤_};
 ghost use mathlib.Core.Path.{_≡_};
 ghost use lib.ListN.{length};
 ghost use Rattle.writer.specs.Calls.{Good};
@@ -129,6 +129,24 @@ fn carry_out(slot: &mut [u8], n: usize, place: Place, bytes: &[u8], opens: bool)
     opens_as(part(slot, 0, n), opens)
 }
 
+// Whether begin or push answered so; if it was accepted, its write is carried out.
+fn is_carried(
+    slot: &mut [u8],
+    n: usize,
+    reply: Reply,
+    due: u32,
+    place: Place,
+    lent: &[u8],
+) -> bool {
+    if !is_reply(reply, due) {
+        return false;
+    }
+    if due != 0 {
+        return true;
+    }
+    carry_out(slot, n, place, part(lent, 0, place.length), false)
+}
+
 // Begin on the slot as it stands.
 fn load_begin(step: &[u8], n: usize, slot: &mut [u8], lent: &mut [u8], due: u32) -> Left
     ensures { λ q. ⌜ Good (q .writer) ⌝ }
@@ -137,10 +155,7 @@ fn load_begin(step: &[u8], n: usize, slot: &mut [u8], lent: &mut [u8], due: u32)
     let reply = call.reply;
     let place = call.place;
     let writer = call.writer;
-    let mut good = is_reply(reply, due);
-    if due == 0 {
-        good = good & carry_out(slot, n, place, part(lent, 0, place.length), false);
-    }
+    let good = is_carried(slot, n, reply, due, place, lent);
     Left { writer, good }
 }
 
@@ -193,10 +208,7 @@ fn load_push(
     let reply = call.reply;
     let place = call.place;
     let writer = call.writer;
-    let mut good = is_reply(reply, due);
-    if due == 0 {
-        good = good & carry_out(slot, n, place, part(lent, 0, place.length), false);
-    }
+    let good = is_carried(slot, n, reply, due, place, lent);
     Left { writer, good }
 }
 
@@ -236,18 +248,34 @@ fn load_finish(
     Left { writer, good }
 }
 
-// A call that is lent this buffer.
-fn run_call(step: &[u8], w: HpsWriter, slot: &mut [u8], lent: &mut [u8]) -> Left
+// Whether these bytes lie in the slot.
+fn has_bytes(slot: &[u8], at: usize, bytes: &[u8]) -> bool {
+    same(part(slot, at, bytes.len()), bytes)
+}
+
+// 0 what is done, 4 the number of the refusal, or 0, 8 the slot's length, with bytes their place; then what the call is given.
+fn run_step(step: &[u8], w: HpsWriter, slot: &mut [u8], lent: &mut [u8]) -> Left
     requires { ⌜ Good w ⌝ }
     ensures { λ q. ⌜ Good (q .writer) ⌝ }
 {
     let due = number(step, 4);
     let n = size(step, 8);
     match number(step, 0) {
+        1 => {
+            put_bytes(slot, n, part(step, 32, size(step, 12)));
+            Left {
+                writer: w,
+                good: true,
+            }
+        }
         2 => load_begin(step, n, slot, lent, due),
         3 => load_cue(step, w, due),
         4 => load_push(step, w, n, slot, lent, due),
         5 => load_finish(step, w, n, slot, lent, due),
+        6 => {
+            let good = has_bytes(slot, n, part(step, 32, size(step, 12)));
+            Left { writer: w, good }
+        }
         _ => Left {
             writer: w,
             good: false,
@@ -255,39 +283,19 @@ fn run_call(step: &[u8], w: HpsWriter, slot: &mut [u8], lent: &mut [u8]) -> Left
     }
 }
 
-// A call that is lent so many bytes of this buffer.
+fn least(a: usize, b: usize) -> usize
+    ensures { λ r. ⌜ r ≤ b ⌝ }
+{
+    if a < b { a } else { b }
+}
+
+// A step that is lent so many bytes of this buffer.
 fn lend(step: &[u8], w: HpsWriter, slot: &mut [u8], lent: &mut [u8]) -> Left
     requires { ⌜ Good w ⌝ }
     ensures { λ q. ⌜ Good (q .writer) ⌝ }
 {
-    let most = size(step, 28);
-    if most <= lent.len() {
-        run_call(step, w, slot, &mut lent[..most])
-    } else {
-        run_call(step, w, slot, lent)
-    }
-}
-
-fn run_step(step: &[u8], w: HpsWriter, slot: &mut [u8], lent: &mut [u8]) -> Left
-    requires { ⌜ Good w ⌝ }
-    ensures { λ q. ⌜ Good (q .writer) ⌝ }
-{
-    let at = size(step, 8);
-    let bytes = part(step, 32, size(step, 12));
-    match number(step, 0) {
-        1 => {
-            put_bytes(slot, at, bytes);
-            Left {
-                writer: w,
-                good: true,
-            }
-        }
-        6 => {
-            let good = same(part(slot, at, bytes.len()), bytes);
-            Left { writer: w, good }
-        }
-        _ => lend(step, w, slot, lent),
-    }
+    let most = least(size(step, 28), lent.len());
+    run_step(step, w, slot, &mut lent[..most])
 }
 
 // Steps one after the other, each with its length before it. Gives 0, or 1 and the number of the first that went another way; 1 where there is none.
@@ -299,7 +307,7 @@ fn other_step(body: &[u8], begun: HpsWriter, slot: &mut [u8], lent: &mut [u8]) -
     let mut steps: usize = 0;
     while steps < STEPS {
         let n = size(body, at);
-        let left = run_step(part(body, at + 4, n), w, slot, lent);
+        let left = lend(part(body, at + 4, n), w, slot, lent);
         if !left.good {
             return 1 + steps;
         }

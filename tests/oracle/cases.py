@@ -1,4 +1,4 @@
-"""Cases of the program `replay`: a slot, a loading or the arguments of an estimate, with the answers that they must have.
+"""Cases of the programs `replay` and `replay_loads`: a slot or the arguments of an estimate, and a loading, with the answers that they must have.
 
 A case has a kind (1 slot, 2 loading, 3 estimate), a length and so many bytes; numbers are u32, big-endian, two of them for a u64.
   slot      the slot's length; how many bytes follow, the others being 0, and these; the listing's length and the listing; then, if the slot opens, its two
@@ -12,6 +12,7 @@ The answers are the Rust's, and document 01's where docs/DIFFERENCES.md has a di
 the count is refused with 6; D7: the Rust gives no coefficients, gain and context for a PCM block, so they are those of its channel and of its block's
 header; D9a: positions past the end. In mono the second channel is zeros. The estimate is not in the Rust: its answers are by document 01's formula.
 """
+import os
 import re
 import struct
 import subprocess
@@ -21,11 +22,17 @@ from inputs import END
 from loadings import NAMES, steps
 
 SLOT, LOADING, ESTIMATE = 1, 2, 3
-MOST = 590000  # of what the program takes
+PROGRAMS = {SLOT: "replay", LOADING: "replay_loads", ESTIMATE: "replay"}
+MOST = 590000  # of what a program takes
 
 
 def case(kind, body):
     return struct.pack(">II", kind, len(body)) + body
+
+
+def program_of(made):
+    """The name of the program that takes this case."""
+    return PROGRAMS[made[3]]
 
 
 # ---- Slots
@@ -146,10 +153,11 @@ def estimates():
         yield estimate_case(blocks, length, channels, p, due)
 
 
-# ---- The program
+# ---- The programs
 
-def others(program, cases):
-    """The numbers of the cases in which our calls say something else, and the places there."""
+def others(folder, cases):
+    """The numbers of the cases, of one program in this folder, in which our calls say something else, and the places there."""
+    program = os.path.join(folder, program_of(cases[0]))
     done = subprocess.run([program], input=b"".join(cases), capture_output=True)
     *lines, last = done.stdout.decode().split("\n")[:-1] or [""]
     found = {int(words[2]): int(words[4]) for words in map(str.split, lines)}

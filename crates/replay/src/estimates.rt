@@ -1,8 +1,9 @@
 // The estimate, held to recorded answers.
-use crate::values::size;
 use estimate::EstimateReply;
 use estimate::estimate;
+use stored::long;
 use stored::number;
+use stored::size;
 
 // The estimate of 1, 512 or 513 blocks of this length.
 fn reply(blocks: u32, length: usize, channels: usize, p: u32) -> EstimateReply {
@@ -42,7 +43,7 @@ pub fn estimate_case(body: &[u8]) -> usize {
             if due != 0 {
                 return 1;
             }
-            if n != number(body, 20) as u64 * 4294967296 + number(body, 24) as u64 {
+            if n != long(body, 20) {
                 return 1;
             }
             0

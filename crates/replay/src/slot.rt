@@ -1,8 +1,4 @@
 // A slot's listing, which makes every cue call, and its block reads and addresses remaining, held to recorded answers.
-use crate::values::half;
-use crate::values::long;
-use crate::values::signed;
-use crate::values::size;
 use block_reader::blocks::BlockCall;
 use block_reader::blocks::BlockReply;
 use block_reader::blocks::RemainingReply;
@@ -18,8 +14,12 @@ use listing::listing::fill;
 use listing::listing::start_listing;
 use puts::put_bytes;
 use reader::HpsReader;
+use stored::half;
+use stored::long;
 use stored::number;
 use stored::part;
+use stored::signed;
+use stored::size;
 ghost use Prim.Native.Nat.{_<_};
 ghost use Rattle.reader.specs.OpeningAndReading.{Readable};
 

@@ -5,8 +5,8 @@ use Rattle.replay.proofs.slot.is_info.Tie as tie
 use Rattle.replay.proofs.slot.is_info.Reads as reads
 use Rattle.replay.proofs.slot.is_info.Lts as lts
 use Rattle.replay.proofs.slot.is_context.Reads as is-context-reads
-use Rattle.replay.proofs.values.half.Reads as half-reads
-use Rattle.replay.proofs.values.signed.Reads as signed-reads
+use Rattle.stored.proofs.half.Reads as half-reads
+use Rattle.stored.proofs.signed.Reads as signed-reads
 
 abbrev Inv-loop : tie.InvT-loop
 Inv-loop gain context want at coefficients i₀ i = i ≤ 16

@@ -2,13 +2,14 @@ use Prim.Native.Nat.{_-_, _≤_}
 use mathlib.Core.Path.{_≡_}
 use lib.ListN.{length}
 use borrow.Author.Needs.{needs}
-use Rattle.replay.proofs.loading.side.Statement.{statement}
-use Rattle.replay.proofs.loading.side.Tie as tie
-use Rattle.replay.proofs.loading.side.Reads as reads
-use Rattle.replay.proofs.loading.side.Lts as lts
-use Rattle.replay.proofs.values.half.Reads as half-reads
-use Rattle.replay.proofs.values.signed.Reads as signed-reads
+use Rattle.replay_loads.proofs.loading.side.Statement.{statement}
+use Rattle.replay_loads.proofs.loading.side.Tie as tie
+use Rattle.replay_loads.proofs.loading.side.Reads as reads
+use Rattle.replay_loads.proofs.loading.side.Lts as lts
+use Rattle.stored.proofs.half.Reads as half-reads
+use Rattle.stored.proofs.signed.Reads as signed-reads
 use Rattle.stored.proofs.number.Reads as number-reads
+use Rattle.stored.proofs.size.Reads as size-reads
 
 abbrev Inv-loop : tie.InvT-loop
 Inv-loop s at coefficients₀ i₀ coefficients i = (length coefficients ≡ 16) × (i ≤ 16)
@@ -16,95 +17,69 @@ Inv-loop s at coefficients₀ i₀ coefficients i = (length coefficients ≡ 16)
 abbrev μ-loop : tie.MeasureT-loop
 μ-loop s at coefficients₀ i₀ coefficients i = 16 - i
 
--- src/main.rt:88:5
 loop-holds : tie.Need-loop-holds Inv-loop μ-loop
 loop-holds c = search needs
 
--- src/main.rt:89:37
 add-signed : tie.Need-add-signed Inv-loop μ-loop
 add-signed c = search needs
 
--- src/main.rt:89:46
 mul-signed : tie.Need-mul-signed Inv-loop μ-loop
 mul-signed c = search needs
 
--- src/main.rt:89:37
 add-signed-2 : tie.Need-add-signed-2 Inv-loop μ-loop
 add-signed-2 c = search needs
 
--- src/main.rt:89:27
 signed-requires : tie.Need-signed-requires Inv-loop μ-loop
 signed-requires c κs = search needs
 
--- src/main.rt:89:9
 mul-coefficients : tie.Need-mul-coefficients Inv-loop μ-loop
 mul-coefficients c = search needs
 
--- src/main.rt:89:9
 array-set-from-coefficients : tie.Need-array-set-from-coefficients Inv-loop μ-loop
 array-set-from-coefficients c = search needs
 
--- src/main.rt:90:9
 add-i : tie.Need-add-i Inv-loop μ-loop
 add-i c = search needs
 
--- src/main.rt:88:5
 loop-less : tie.Need-loop-less Inv-loop μ-loop
 loop-less c = search needs
 
--- src/main.rt:88:5
 loop-again : tie.Need-loop-again Inv-loop μ-loop
 loop-again c = search needs
 
--- src/main.rt:93:38
 add-half : tie.Need-add-half Inv-loop μ-loop
 add-half c = search needs
 
--- src/main.rt:93:30
 half-requires : tie.Need-half-requires Inv-loop μ-loop
 half-requires c κs = search needs
 
--- src/main.rt:94:25
 add-signed-3 : tie.Need-add-signed-3 Inv-loop μ-loop
 add-signed-3 c = search needs
 
--- src/main.rt:94:15
 signed-requires-2 : tie.Need-signed-requires-2 Inv-loop μ-loop
 signed-requires-2 c κs = search needs
 
--- src/main.rt:95:27
 add-signed-4 : tie.Need-add-signed-4 Inv-loop μ-loop
 add-signed-4 c = search needs
 
--- src/main.rt:95:17
 signed-requires-3 : tie.Need-signed-requires-3 Inv-loop μ-loop
 signed-requires-3 c κs = search needs
 
--- src/main.rt:98:15
 number-requires : tie.Need-number-requires Inv-loop μ-loop
 number-requires c κs = search needs
 
--- src/main.rt:99:27
-add-number : tie.Need-add-number Inv-loop μ-loop
-add-number c = search needs
+add-size : tie.Need-add-size Inv-loop μ-loop
+add-size c = search needs
 
--- src/main.rt:99:17
-number-requires-2 : tie.Need-number-requires-2 Inv-loop μ-loop
-number-requires-2 c κs = search needs
+size-requires : tie.Need-size-requires Inv-loop μ-loop
+size-requires c κs = search needs
 
--- src/main.rt:99:17
-cast-t19 : tie.Need-cast-t19 Inv-loop μ-loop
-cast-t19 c = search needs
-
--- src/main.rt:101:23
 add-half-2 : tie.Need-add-half-2 Inv-loop μ-loop
 add-half-2 c = search needs
 
--- src/main.rt:101:15
 half-requires-2 : tie.Need-half-requires-2 Inv-loop μ-loop
 half-requires-2 c κs = search needs
 
--- src/main.rt:83:1
 returns : tie.Need-returns Inv-loop μ-loop
 returns c = search needs
 
@@ -131,9 +106,8 @@ side-spec =
     add-signed-4
     signed-requires-3
     number-requires
-    add-number
-    number-requires-2
-    cast-t19
+    add-size
+    size-requires
     add-half-2
     half-requires-2
     returns)

@@ -1,29 +1,28 @@
-// A stream loaded through begin, cue, push and finish, with calls among them that are refused, held to recorded answers and bytes. After each write the slot is
-// opened: up to finish's last write with 2 or 3, then as a stream.
-use crate::values::half;
-use crate::values::long;
-use crate::values::signed;
-use crate::values::size;
+// A stream loaded through begin, cue, push and finish, with calls among them that are refused, held to recorded answers and bytes.
 use block_writer::push::push;
+use carried::is_carried;
+use carried::is_header_carried;
+use carried::is_reply;
 use check::same;
 use header_writer::finish::finish;
 use layout::FrameContext;
-use layout::fields::inside;
 use puts::put_bytes;
-use reader::opening::OpenReply;
-use reader::opening::open;
+use stored::half;
+use stored::long;
 use stored::number;
 use stored::part;
+use stored::signed;
+use stored::size;
 use writer::ChannelBlock;
 use writer::Cue;
 use writer::CueKind;
 use writer::HpsWriter;
 use writer::Looping;
-use writer::Place;
-use writer::Reply;
 use writer::begin;
 use writer::cues::cue;
-ghost use Prim.Native.Nat.{_<_};
+ghost use Prim.Native.Nat.{_<_, _≤_};
+ghost use mathlib.Core.Path.{_≡_};
+ghost use lib.ListN.{length};
 ghost use Rattle.writer.specs.Calls.{Good};
 
 const STEPS: usize = 3000;
@@ -72,59 +71,11 @@ fn side(s: &[u8], at: usize) -> ChannelBlock
     };
     ChannelBlock {
         rate: number(s, at),
-        length: number(s, at + 4) as usize,
+        length: size(s, at + 4),
         coefficients,
         gain: half(s, at + 40),
         context,
     }
-}
-
-// Whether a call answered with this number, or with 0 if it was accepted.
-fn is_reply(reply: Reply, due: u32) -> bool {
-    match reply {
-        Reply::Refused(n) => n == due,
-        Reply::Accepted(_) => due == 0,
-    }
-}
-
-// The same of finish, which gives the finished length.
-fn is_finished(reply: Reply, due: u32, length: usize) -> bool {
-    match reply {
-        Reply::Refused(n) => n == due,
-        Reply::Accepted(n) => {
-            if due != 0 {
-                return false;
-            }
-            n == length
-        }
-    }
-}
-
-// Whether the slot opens; with 2 or 3 where it must not.
-fn opens_as(s: &[u8], opens: bool) -> bool {
-    let opened = open(s);
-    let reply = opened.reply;
-    match reply {
-        OpenReply::Opened => opens,
-        OpenReply::Refused(n) => {
-            if opens {
-                return false;
-            }
-            if n == 2 {
-                return true;
-            }
-            n == 3
-        }
-    }
-}
-
-// The server carries a write out, and opens the slot.
-fn carry_out(slot: &mut [u8], n: usize, place: Place, bytes: &[u8], opens: bool) -> bool {
-    if !inside(n, place.offset, place.length) {
-        return false;
-    }
-    put_bytes(slot, place.offset, bytes);
-    opens_as(part(slot, 0, n), opens)
 }
 
 // Begin on the slot as it stands.
@@ -135,10 +86,7 @@ fn load_begin(step: &[u8], n: usize, slot: &mut [u8], lent: &mut [u8], due: u32)
     let reply = call.reply;
     let place = call.place;
     let writer = call.writer;
-    let mut good = is_reply(reply, due);
-    if due == 0 {
-        good = good & carry_out(slot, n, place, part(lent, 0, place.length), false);
-    }
+    let good = is_carried(slot, n, reply, due, place, lent);
     Left { writer, good }
 }
 
@@ -191,25 +139,8 @@ fn load_push(
     let reply = call.reply;
     let place = call.place;
     let writer = call.writer;
-    let mut good = is_reply(reply, due);
-    if due == 0 {
-        good = good & carry_out(slot, n, place, part(lent, 0, place.length), false);
-    }
+    let good = is_carried(slot, n, reply, due, place, lent);
     Left { writer, good }
-}
-
-// Finish's three writes: their bytes lie in the lent buffer one after the other.
-fn carry_header(slot: &mut [u8], n: usize, places: [Place; 3], lent: &[u8]) -> bool {
-    let start = places[0];
-    let rest = places[1];
-    let mark = places[2];
-    if !carry_out(slot, n, start, part(lent, 0, 15), false) {
-        return false;
-    }
-    if !carry_out(slot, n, rest, part(lent, 15, 112), false) {
-        return false;
-    }
-    carry_out(slot, n, mark, part(lent, 127, 1), true)
 }
 
 fn load_finish(
@@ -227,25 +158,38 @@ fn load_finish(
     let reply = call.reply;
     let places = call.places;
     let writer = call.writer;
-    let mut good = is_finished(reply, due, size(step, 12));
-    if due == 0 {
-        good = good & carry_header(slot, n, places, lent);
-    }
+    let good = is_header_carried(slot, n, reply, due, size(step, 12), places, lent);
     Left { writer, good }
 }
 
-// A call that is lent this buffer.
-fn run_call(step: &[u8], w: HpsWriter, slot: &mut [u8], lent: &mut [u8]) -> Left
+// Whether these bytes lie in the slot.
+fn has_bytes(slot: &[u8], at: usize, bytes: &[u8]) -> bool {
+    same(part(slot, at, bytes.len()), bytes)
+}
+
+// 0 what is done, 4 the number of the refusal, or 0, 8 the slot's length, with bytes their place; then what the call is given.
+fn run_step(step: &[u8], w: HpsWriter, slot: &mut [u8], lent: &mut [u8]) -> Left
     requires { ⌜ Good w ⌝ }
     ensures { λ q. ⌜ Good (q .writer) ⌝ }
 {
     let due = number(step, 4);
     let n = size(step, 8);
     match number(step, 0) {
+        1 => {
+            put_bytes(slot, n, part(step, 32, size(step, 12)));
+            Left {
+                writer: w,
+                good: true,
+            }
+        }
         2 => load_begin(step, n, slot, lent, due),
         3 => load_cue(step, w, due),
         4 => load_push(step, w, n, slot, lent, due),
         5 => load_finish(step, w, n, slot, lent, due),
+        6 => {
+            let good = has_bytes(slot, n, part(step, 32, size(step, 12)));
+            Left { writer: w, good }
+        }
         _ => Left {
             writer: w,
             good: false,
@@ -253,53 +197,31 @@ fn run_call(step: &[u8], w: HpsWriter, slot: &mut [u8], lent: &mut [u8]) -> Left
     }
 }
 
-// A call that is lent so many bytes of this buffer.
+fn least(a: usize, b: usize) -> usize
+    ensures { λ r. ⌜ r ≤ b ⌝ }
+{
+    if a < b { a } else { b }
+}
+
+// A step that is lent so many bytes of this buffer.
 fn lend(step: &[u8], w: HpsWriter, slot: &mut [u8], lent: &mut [u8]) -> Left
     requires { ⌜ Good w ⌝ }
     ensures { λ q. ⌜ Good (q .writer) ⌝ }
 {
-    let most = size(step, 28);
-    if most <= lent.len() {
-        run_call(step, w, slot, &mut lent[..most])
-    } else {
-        run_call(step, w, slot, lent)
-    }
-}
-
-fn run_step(step: &[u8], w: HpsWriter, slot: &mut [u8], lent: &mut [u8]) -> Left
-    requires { ⌜ Good w ⌝ }
-    ensures { λ q. ⌜ Good (q .writer) ⌝ }
-{
-    let at = size(step, 8);
-    let bytes = part(step, 32, size(step, 12));
-    match number(step, 0) {
-        1 => {
-            put_bytes(slot, at, bytes);
-            Left {
-                writer: w,
-                good: true,
-            }
-        }
-        6 => {
-            let good = same(part(slot, at, bytes.len()), bytes);
-            Left { writer: w, good }
-        }
-        _ => lend(step, w, slot, lent),
-    }
+    let most = least(size(step, 28), lent.len());
+    run_step(step, w, slot, &mut lent[..most])
 }
 
 // Steps one after the other, each with its length before it. Gives 0, or 1 and the number of the first that went another way; 1 where there is none.
-pub fn loading_case(body: &[u8]) -> usize {
-    let mut slot = [0u8; SLOT];
-    let mut lent = [7u8; LENT];
-    let none = begin(0, 0, Looping::Auto, &mut lent);
-    let mut w = none.writer;
+fn other_step(body: &[u8], begun: HpsWriter, slot: &mut [u8], lent: &mut [u8]) -> usize
+    requires { ⌜ Good begun ⌝ }
+{
+    let mut w = begun;
     let mut at: usize = 0;
     let mut steps: usize = 0;
     while steps < STEPS {
         let n = size(body, at);
-        let step = part(body, at + 4, n);
-        let left = run_step(step, w, &mut slot, &mut lent);
+        let left = lend(part(body, at + 4, n), w, slot, lent);
         if !left.good {
             return 1 + steps;
         }
@@ -311,4 +233,24 @@ pub fn loading_case(body: &[u8]) -> usize {
         steps += 1;
     }
     1 + steps
+}
+
+fn empty_slot() -> [u8; SLOT]
+    ensures { λ r. ⌜ 262144 ≡ length r ⌝ }
+{
+    [0; SLOT]
+}
+
+fn lent_buffer() -> [u8; LENT]
+    ensures { λ r. ⌜ 66592 ≡ length r ⌝ }
+{
+    [7; LENT]
+}
+
+// The steps over a slot of zeros, before any begin.
+pub fn loading_case(body: &[u8]) -> usize {
+    let mut slot = empty_slot();
+    let mut lent = lent_buffer();
+    let none = begin(0, 0, Looping::Auto, &mut lent);
+    other_step(body, none.writer, &mut slot, &mut lent)
 }

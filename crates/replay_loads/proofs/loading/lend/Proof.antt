@@ -1,0 +1,47 @@
+use mathlib.Core.Path.{sym}
+use lib.Seq.{length-take-le}
+use borrow.Author.Needs.{needs}
+use Rattle.replay_loads.proofs.loading.lend.Statement.{statement}
+use Rattle.replay_loads.proofs.loading.lend.Tie as tie
+use Rattle.replay_loads.proofs.loading.lend.Reads as reads
+use Rattle.replay_loads.proofs.loading.lend.Lts as lts
+use Rattle.replay_loads.proofs.loading.least.Reads as least-reads
+use Rattle.replay_loads.proofs.loading.run_step.Reads as run-step-reads
+use Rattle.stored.proofs.size.Reads as size-reads
+
+size-requires : tie.Need-size-requires
+size-requires c κs = search needs
+
+least-requires : tie.Need-least-requires
+least-requires c κs = search needs
+
+slice-relend-prefix-run-step : tie.Need-slice-relend-prefix-run-step
+slice-relend-prefix-run-step c = search needs
+
+slice-aggregate-run-step : tie.Need-slice-aggregate-run-step
+slice-aggregate-run-step c = sym (length-take-le _ _ (slice-relend-prefix-run-step (c .before)))
+
+run-step-requires : tie.Need-run-step-requires
+run-step-requires c κs = search needs
+
+same-length : tie.Need-same-length
+same-length c = search needs
+
+same-length-2 : tie.Need-same-length-2
+same-length-2 c = search needs
+
+returns : tie.Need-returns
+returns c = search needs
+
+pub lend-spec : {M : Type 1} → statement M
+lend-spec =
+    tie.close
+    (tie.spec
+    size-requires
+    least-requires
+    slice-relend-prefix-run-step
+    slice-aggregate-run-step
+    run-step-requires
+    same-length
+    same-length-2
+    returns)

@@ -3,16 +3,14 @@ use check::same;
 use cuts::Ask;
 use cuts::answer;
 use cuts::files::read_file;
+use io::large_buffer;
 use io::write_all;
 use libc::STDOUT_FILENO;
 
-// As long as the longest listing, and a byte more.
-const LISTED: usize = 65536;
-
-// Whether two files, which are shorter than that, are the same.
+// Whether two files are the same; what they have past 65,536 bytes is not looked at.
 fn same_files(one: &[u8], two: &[u8]) -> bool {
-    let mut here = [0u8; LISTED];
-    let mut there = [0u8; LISTED];
+    let mut here = large_buffer();
+    let mut there = large_buffer();
     let a = read_file(one, &mut here);
     let b = read_file(two, &mut there);
     let n = a.length;
@@ -31,7 +29,7 @@ fn write_answer(earlier: &[u8], script: &[u8], ask: Ask) {
 
 fn run(slot: &[u8], script: &[u8], listing: &[u8], ask: Ask) {
     let mut earlier = [0u8; 65537];
-    let mut text = [0u8; 65536];
+    let mut text = large_buffer();
     let one = read_file(slot, &mut earlier);
     let two = read_file(script, &mut text);
     let n = one.length;

@@ -19,6 +19,9 @@ use writer::Cue;
 use writer::Reply;
 use writer::begin;
 use writer::cues::cue;
+ghost use mathlib.Core.Path.{_≡_};
+ghost use Rattle.writer.specs.Estimate.{estimateOf};
+ghost use Rattle.hps.specs.Exported.{numberOf, lentAfter};
 
 // Begin: keeps the writer's record, and gives the write's offset and length. The mode is 0 Disabled, 1 Enabled, 2 Auto.
 #[no_mangle]
@@ -144,7 +147,10 @@ pub extern "C" fn hps_estimate(
     channels: usize,
     points: u32,
     length: &mut u64,
-) -> u32 {
+) -> u32
+    ensures { λ r. ⌜ r ≡ numberOf (estimateOf channels (now (lengths .entry)) points) ⌝ }
+    ensures { λ _. ⌜ now (length .exit) ≡ lentAfter (now (length .entry)) (estimateOf channels (now (lengths .entry)) points) ⌝ }
+{
     match estimate(lengths, channels, points) {
         EstimateReply::Refused(number) => number,
         EstimateReply::Length(n) => {

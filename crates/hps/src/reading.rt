@@ -27,6 +27,8 @@ use reader::opening::open;
 ghost use mathlib.Core.Path.{_≡_};
 ghost use Prim.Native.Nat.{_+_, _<_, _≤_, _^_};
 ghost use lib.ListN.{length};
+ghost use Rattle.reader.specs.OpeningAndReading.{opening};
+ghost use Rattle.hps.specs.Exported.{openNumber, Listed};
 
 const CURSOR_SIZE: usize = 32;
 
@@ -40,7 +42,10 @@ struct CuesFilled {
 
 // Opens a slot, and keeps the record in the lent bytes.
 #[no_mangle]
-pub extern "C" fn hps_open(slot: &[u8], kept: &mut [u8]) -> u32 {
+pub extern "C" fn hps_open(slot: &[u8], kept: &mut [u8]) -> u32
+    ensures { λ r. ⌜ r ≡ openNumber (length (now (kept .entry))) (opening (now (slot .entry))) ⌝ }
+    ensures { λ r. ⌜ (0 < r → now (kept .exit) ≡ now (kept .entry)) ⌝ }
+{
     if kept.len() < OPENED_SIZE {
         return 14;
     }
@@ -269,7 +274,9 @@ pub extern "C" fn hps_cues(
 
 // The listing from its start: as many whole lines as fit into out. It is whole if 60 bytes more would have fitted.
 #[no_mangle]
-pub extern "C" fn hps_listing(slot: &[u8], out: &mut [u8]) -> usize {
+pub extern "C" fn hps_listing(slot: &[u8], out: &mut [u8]) -> usize
+    ensures { λ n. ⌜ Listed (now (slot .entry)) (now (out .entry)) (now (out .exit)) n ⌝ }
+{
     let start = start_listing(slot);
     let r = start.reader;
     let stage = start.stage;

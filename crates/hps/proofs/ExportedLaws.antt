@@ -5,21 +5,26 @@ use mathlib.Core.List.{List, [], _++_, append-nil}
 use native.Mathlib.Omega.{arith}
 use lib.ListN.{length, take, length-append}
 use lib.Seq.{take-at}
-use borrow.Author.Tests.{lt-ltb, le-ltb}
+use lib.Dec.{leb}
+use borrow.Author.Tests.{lt-ltb, le-ltb, le-leb, leb-true, leb-false, eq-eqb, ne-eqb}
+use Rattle.layout.specs.Records.{u16At, field, on, Read, formatOf, channelAt, readChannel}
+use Rattle.layout.specs.declared.Channel.{Channel}
+use Rattle.layout.specs.declared.DspFormat.{DspFormat}
+use Rattle.layout.proofs.Cases.{by-cases}
+use Rattle.layout.proofs.FieldLaws.{field-inside, field-past}
 use Rattle.layout.specs.Puts.{putAt}
 use Rattle.writer.specs.Loading.{Answer, accepted, refused}
 use Rattle.estimate.specs.EstimateAnswers.{estimateReply}
 use Rattle.estimate.specs.declared.EstimateReply.{EstimateReply}
-use Rattle.reader.specs.OpeningAndReading.{Opened}
-use Rattle.reader.specs.ReaderAnswers.{openCall}
+use Rattle.reader.specs.OpeningAndReading.{Opened, opening, blockRead, Remaining}
+use Rattle.reader.proofs.OpenedLaws.{opened-parts}
+use Rattle.kept_reader.specs.KeptReader.{openedBytes}
 use Rattle.reader.specs.declared.HpsReader.{HpsReader}
-use Rattle.reader.specs.declared.opening.OpenReply.{OpenReply}
-use Rattle.reader.specs.declared.opening.OpenCall.{OpenCall}
 use Rattle.listing.specs.MarkingKey.{listing, listingFrom}
 use Rattle.listing.specs.Filling.{FilledIs}
 use Rattle.listing.specs.declared.Stage.{Stage}
 use Rattle.listing.specs.declared.listing.Line.{Line}
-use Rattle.hps.specs.Exported.{numberOf, lentAfter, openNumber, Listed}
+use Rattle.hps.specs.Exported.{numberOf, lentAfter, openNumber, keptAfter, onRecord, BlockLent, blockLent, addressesAfter, Listed}
 
 -- ---- The estimate
 
@@ -44,24 +49,75 @@ estimate-given (accepted m) q n before e f = cc
 
 -- ---- Opening
 
-pub no-room : (room : ℕ) (o : Opened) → room < 2184 → 14 ≡ openNumber room o
-no-room room (Opened.refused n) h = rw (lt-ltb room 2184 h)
-no-room room (Opened.opened r) h = rw (lt-ltb room 2184 h)
+module _ (kept s : List ℕ) (o : Opened) where
+  module _ (h : length kept < 2184) where
+    pub no-room : 14 ≡ openNumber (length kept) o
+    no-room = of o
+      where
+        of : (o : Opened) → 14 ≡ openNumber (length kept) o
+        of (Opened.refused n) = rw (lt-ltb (length kept) 2184 h)
+        of (Opened.opened r) = rw (lt-ltb (length kept) 2184 h)
 
-module _ (room : ℕ) (o : Opened) (q : OpenCall) (e : q ≡ openCall o) (h : 2184 ≤ room) where
-  pub open-refused : (n : ℕ) → q .reply ≡ OpenReply.Refused n → n ≡ openNumber room o
-  open-refused n f = of o (sym (ap (λ (x : OpenCall). x .reply) e) ∙ f)
-    where
-      of : (o : Opened) → openCall o .reply ≡ OpenReply.Refused n → n ≡ openNumber room o
-      of (Opened.refused m) e = rw (le-ltb room 2184 h) (cc)
-      of (Opened.opened r) e = absurd (let z : _≡_ {A = ℕ} 0 1 = cc in omega arith)
+    pub no-room-kept : kept ≡ keptAfter kept s o
+    no-room-kept = of o
+      where
+        of : (o : Opened) → kept ≡ keptAfter kept s o
+        of (Opened.refused n) = refl
+        of (Opened.opened r) = rw (lt-ltb (length kept) 2184 h)
 
-  pub open-opened : q .reply ≡ OpenReply.Opened → 0 ≡ openNumber room o
-  open-opened f = of o (sym (ap (λ (x : OpenCall). x .reply) e) ∙ f)
-    where
-      of : (o : Opened) → openCall o .reply ≡ OpenReply.Opened → 0 ≡ openNumber room o
-      of (Opened.refused m) e = absurd (let z : _≡_ {A = ℕ} 0 1 = cc in omega arith)
-      of (Opened.opened r) e = rw (le-ltb room 2184 h)
+  pub open-refused : (n : ℕ) → o ≡ Opened.refused n → 2184 ≤ length kept → n ≡ openNumber (length kept) o
+  open-refused n e h = rw (e, le-ltb (length kept) 2184 h)
+
+  pub open-left : (n : ℕ) → o ≡ Opened.refused n → kept ≡ keptAfter kept s o
+  open-left n e = rw e
+
+  pub open-opened : (r : HpsReader) → o ≡ Opened.opened r → 2184 ≤ length kept → 0 ≡ openNumber (length kept) o
+  open-opened r e h = rw (e, le-ltb (length kept) 2184 h)
+
+  pub open-kept : {after : List ℕ} (r : HpsReader) → o ≡ Opened.opened r → 2184 ≤ length kept → after ≡ putAt kept 0 (openedBytes s r) → after ≡ keptAfter kept s o
+  open-kept r e h f = rw (e, le-ltb (length kept) 2184 h) f
+
+-- a slot that opens has a whole header
+channel-inside : (s : List ℕ) (c : Channel) → readChannel s 72 ≡ Read.value c → 128 ≤ length s
+unfolding readChannel
+channel-inside s c e =
+    by-cases (leb 128 (length s)) (λ t. leb-true 128 (length s) t)
+    (λ t.
+    let h = leb-false 128 (length s) t in
+    absurd (by-cases (leb 76 (length s))
+    (λ u.
+    let k = rw (field-inside s 76 (u16At s 74) (leb-true 76 (length s) u)) at e in
+    formats (formatOf (u16At s 74)) (λ f. field-past s 128 (channelAt s 72 f) h) k)
+    (λ u.
+    let k = rw (field-past s 76 (u16At s 74) (leb-false 76 (length s) u)) at e in
+    apart-read 1 c k)))
+  where
+    apart-read : (n : ℕ) (c : Channel) → Read.refused n ≡ Read.value c → ⊥
+    apart-read n c e = let z : _≡_ {A = ℕ} 0 1 = cc in omega arith
+
+    formats : (q : Read DspFormat) → ((f : DspFormat) → field s 128 (channelAt s 72 f) ≡ Read.refused 1) → on q Read.refused (λ f. field s 128 (channelAt s 72 f)) ≡ Read.value c → ⊥
+    formats (Read.refused n) g e = apart-read n c e
+    formats (Read.value f) g e = apart-read 1 c (sym (g f) ∙ e)
+
+pub opened-long : (s : List ℕ) (r : HpsReader) → opening s ≡ Opened.opened r → 128 ≤ length s
+opened-long s r e = channel-inside s _ (opened-parts s r e .right-read)
+
+-- ---- A block read
+
+module _ (r : HpsReader) where
+  pub no-record : (n : ℕ) → r .count ≡ 0 → 254 ≡ onRecord r n
+  no-record n h = rw (eq-eqb (r .count) 0 h)
+
+  pub a-record : (n : ℕ) → (r .count ≡ 0 → ⊥) → n ≡ onRecord r n
+  a-record n h = rw (ne-eqb (r .count) 0 h)
+
+  pub no-block : (s : List ℕ) (ch i : ℕ) (b : BlockLent) → r .count ≡ 0 → b ≡ blockLent b (blockRead s r ch i)
+  unfolding blockRead
+  no-block s ch i b h = rw (le-leb (r .count) ch (omega arith))
+
+  pub no-sum : (before : ℕ) (a : Remaining) → r .count ≡ 0 → before ≡ addressesAfter r before a
+  no-sum before (Remaining.refused n) h = refl
+  no-sum before (Remaining.addresses n) h = rw (eq-eqb (r .count) 0 h)
 
 -- ---- The listing
 
@@ -83,6 +139,3 @@ listed {s} {r} {stage} {before} {after} {q} f e =
       within = omega arith;
       whole = λ h. let z : length rest ≡ 0 = ap length (done-listing s r (q .stage) (f .done h)) in omega arith;
     }
-
-pub never : {A : Type 0} → 0 < 0 → A
-never h = absurd (omega arith)

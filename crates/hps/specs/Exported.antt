@@ -3,11 +3,14 @@ use Prim.Native.Nat.{ℕ, _+_, _≤_}
 use mathlib.Core.Path.{_≡_}
 use mathlib.Core.List.{List}
 use lib.ListN.{length, take}
-use lib.Dec.{ltb}
+use lib.Dec.{ltb, eqb}
+use lib.IntN.{ℤ}
 use Rattle.layout.specs.Choice.{pick}
 use Rattle.layout.specs.Puts.{putAt}
 use Rattle.writer.specs.Loading.{Answer, accepted, refused}
-use Rattle.reader.specs.OpeningAndReading.{Opened}
+use Rattle.reader.specs.OpeningAndReading.{Opened, BlockAnswer, Remaining}
+use Rattle.reader.specs.declared.HpsReader.{HpsReader}
+use Rattle.kept_reader.specs.KeptReader.{openedSize, openedBytes}
 use Rattle.listing.specs.MarkingKey.{listing}
 
 -- The refusal's number, 0 where the call is accepted.
@@ -24,8 +27,55 @@ lentAfter before (accepted m) = m
 
 -- 14 where the lent bytes are too few for a record, else the opening's refusal or 0.
 abbrev pub openNumber : (room : ℕ) → Opened → ℕ
-openNumber room (Opened.refused n) = pick (ltb room 2184) 14 n
-openNumber room (Opened.opened r) = pick (ltb room 2184) 14 0
+openNumber room (Opened.refused n) = pick (ltb room openedSize) 14 n
+openNumber room (Opened.opened r) = pick (ltb room openedSize) 14 0
+
+-- The lent bytes after an opening of this slot: the record where there is one and room for it, else as they were.
+abbrev pub keptAfter : (kept slot : List ℕ) → Opened → List ℕ
+keptAfter kept s (Opened.refused n) = kept
+keptAfter kept s (Opened.opened r) = pick (ltb (length kept) openedSize) kept (putAt kept 0 (openedBytes s r))
+
+-- ---- Calls on a kept record
+
+-- The number of a call: 254 where the bytes hold no record.
+abbrev pub onRecord : HpsReader → (number : ℕ) → ℕ
+onRecord r n = pick (eqb (r .count) 0) 254 n
+
+-- A block read's number, 255 for the end.
+abbrev pub blockNumber : BlockAnswer → ℕ
+blockNumber (BlockAnswer.refused n) = n
+blockNumber (BlockAnswer.refusedAt n j) = n
+blockNumber BlockAnswer.ended = 255
+blockNumber (BlockAnswer.gave rate f cs gain len c start bytes j) = 0
+
+-- The numbers lent to a block read.
+pub record BlockLent : Type 0 where
+  pub position : ℕ
+  pub start : ℕ
+  pub end : ℕ
+  pub length : ℕ
+  pub scale : ℕ
+  pub last : ℤ
+  pub oldest : ℤ
+
+-- The same after it: with 1 the position has moved, with a block all are given, else all are left. (Where there is no record the answer is 6.)
+abbrev pub blockLent : BlockLent → BlockAnswer → BlockLent
+blockLent b (BlockAnswer.refused n) = b
+blockLent b (BlockAnswer.refusedAt n j) =
+    record { position = j; start = b .start; end = b .end; length = b .length; scale = b .scale; last = b .last; oldest = b .oldest }
+blockLent b BlockAnswer.ended = b
+blockLent b (BlockAnswer.gave rate f cs gain len c start bytes j) =
+    record { position = j; start = start; end = start + length bytes; length = len; scale = c .«predictor_and_scale»; last = c .last; oldest = c .oldest }
+
+-- The number of addresses remaining.
+abbrev pub remainingNumber : Remaining → ℕ
+remainingNumber (Remaining.refused n) = n
+remainingNumber (Remaining.addresses n) = 0
+
+-- The number lent for the sum, after the call.
+abbrev pub addressesAfter : HpsReader → (before : ℕ) → Remaining → ℕ
+addressesAfter r before (Remaining.refused n) = before
+addressesAfter r before (Remaining.addresses n) = pick (eqb (r .count) 0) before n
 
 -- ---- Listing
 

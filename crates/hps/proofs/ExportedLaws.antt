@@ -1,11 +1,11 @@
 -- The exported calls' answers, from what the calls below them return.
 use Prim.Native.Nat.{ℕ, _+_, _≤_, _<_}
 use mathlib.Core.Path.{_≡_, refl, sym, ap, _∙_}
-use mathlib.Core.List.{List, [], _++_, append-nil}
+use mathlib.Core.List.{List, [], _∷_, _++_, append-nil}
 use native.Mathlib.Omega.{arith}
 use lib.ListN.{length, take, length-append}
 use lib.Seq.{take-at}
-use lib.Dec.{leb}
+use lib.Dec.{leb, eqb}
 use borrow.Author.Tests.{lt-ltb, le-ltb, le-leb, leb-true, leb-false, eq-eqb, ne-eqb}
 use Rattle.layout.specs.Records.{u16At, field, on, Read, formatOf, channelAt, readChannel}
 use Rattle.layout.specs.declared.Channel.{Channel}
@@ -13,7 +13,14 @@ use Rattle.layout.specs.declared.DspFormat.{DspFormat}
 use Rattle.layout.proofs.Cases.{by-cases}
 use Rattle.layout.proofs.FieldLaws.{field-inside, field-past}
 use Rattle.layout.specs.Puts.{putAt}
-use Rattle.writer.specs.Loading.{Answer, accepted, refused}
+use Rattle.writer.specs.Loading.{Answer, accepted, refused, Push, beginRefusal, beginWrites, pushRefusal, finishRefusal, headerWrites}
+use Rattle.writer.specs.Calls.{outcome, replyOf, called, finished, beginOf, pushOf, finishOf, blank, emptyOf, standingIn, takenOf, afterPush, pushBytes, afterFinish, headerOf}
+use Rattle.writer.specs.WritesAndCuttingRule.{Write, write}
+use Rattle.writer.specs.declared.HpsWriter.{HpsWriter}
+use Rattle.writer.specs.declared.Looping.{Looping}
+use Rattle.writer.specs.declared.Reply.{Reply}
+use Rattle.writer.specs.declared.Called.{Called}
+use Rattle.writer.specs.declared.Finished.{Finished}
 use Rattle.estimate.specs.EstimateAnswers.{estimateReply}
 use Rattle.estimate.specs.declared.EstimateReply.{EstimateReply}
 use Rattle.reader.specs.OpeningAndReading.{Opened, opening, blockRead, Remaining}
@@ -139,3 +146,27 @@ listed {s} {r} {stage} {before} {after} {q} f e =
       within = omega arith;
       whole = λ h. let z : length rest ≡ 0 = ap length (done-listing s r (q .stage) (f .done h)) in omega arith;
     }
+
+-- ---- Loading calls
+
+pub accepted-leaves : {A : Type 0} {x y : A} → 0 < 0 → x ≡ y
+accepted-leaves h = absurd (omega arith)
+
+outcome-left : (number : ℕ) (w next : HpsWriter) (lent : List ℕ) (m : ℕ) (ws : List Write) (n : ℕ) → replyOf (outcome number w lent next m ws .answer) ≡ Reply.Refused n → outcome number w lent next m ws .lent ≡ lent
+outcome-left number w next lent m ws n e =
+    by-cases (eqb number 0)
+    (λ t. let k = rw t at e in absurd (let z : _≡_ {A = ℕ} 0 1 = cc in omega arith))
+    (λ t. rw t)
+
+module _ (q : Called) (n : ℕ) where
+  pub begin-left : (slot channels : ℕ) (mode : Looping) (lent : List ℕ) → q ≡ called (beginOf slot channels mode lent) → q .reply ≡ Reply.Refused n → beginOf slot channels mode lent .lent ≡ lent
+  unfolding beginOf
+  begin-left slot channels mode lent e f = outcome-left (beginRefusal slot channels (length lent)) blank (emptyOf slot channels mode) lent 0 beginWrites n (sym (ap (λ (x : Called). x .reply) e) ∙ f)
+
+  pub push-left : (w : HpsWriter) (p : Push) (lent : List ℕ) → q ≡ called (pushOf w p lent) → q .reply ≡ Reply.Refused n → pushOf w p lent .lent ≡ lent
+  unfolding pushOf
+  push-left w p lent e f = outcome-left (pushRefusal (standingIn w) (takenOf w p) p (length lent)) w (afterPush w p) lent 0 (write (w .offset) (pushBytes w p) ∷ []) n (sym (ap (λ (x : Called). x .reply) e) ∙ f)
+
+pub finish-left : (q : Finished) (n : ℕ) (w : HpsWriter) (lent : List ℕ) → q ≡ finished (finishOf w lent) → q .reply ≡ Reply.Refused n → finishOf w lent .lent ≡ lent
+unfolding finishOf
+finish-left q n w lent e f = outcome-left (finishRefusal (w .finished) (w .blocks) (w .last) (length lent)) w (afterFinish w) lent (w .offset) (headerWrites (headerOf w)) n (sym (ap (λ (x : Finished). x .reply) e) ∙ f)

@@ -1,5 +1,5 @@
 -- What the exported calls give: a number, and what the lent numbers and bytes hold after it.
-use Prim.Native.Nat.{ℕ, _+_, _≤_}
+use Prim.Native.Nat.{ℕ, _+_, _≤_, _<_}
 use mathlib.Core.Path.{_≡_}
 use mathlib.Core.List.{List}
 use lib.ListN.{length, take}
@@ -85,3 +85,9 @@ pub record Listed (s before after : List ℕ) (n : ℕ) : Type 0 where
   pub fits : n ≤ length before
   pub within : n ≤ length (listing s)
   pub whole : n + 60 ≤ length before → n ≡ length (listing s)
+
+-- ---- Loading calls
+
+-- A call that gives a number other than 0 leaves what it was lent as it was.
+abbrev pub Leaves : {A : Type 0} → (number : ℕ) → (before after : A) → Type 0
+Leaves n before after = 0 < n → after ≡ before

@@ -19,6 +19,9 @@ use writer::Cue;
 use writer::Reply;
 use writer::begin;
 use writer::cues::cue;
+ghost use mathlib.Core.Path.{_≡_};
+ghost use Rattle.writer.specs.Estimate.{estimateOf};
+ghost use Rattle.hps.specs.Exported.{numberOf, lentAfter, Leaves};
 
 // Begin: keeps the writer's record, and gives the write's offset and length. The mode is 0 Disabled, 1 Enabled, 2 Auto.
 #[no_mangle]
@@ -30,7 +33,9 @@ pub extern "C" fn hps_begin(
     lent: &mut [u8],
     offset: &mut usize,
     length: &mut usize,
-) -> u32 {
+) -> u32
+    ensures { λ r. ⌜ (Leaves r (now (kept .entry)) (now (kept .exit))) × (Leaves r (now (lent .entry)) (now (lent .exit))) × (Leaves r (now (offset .entry)) (now (offset .exit))) × (Leaves r (now (length .entry)) (now (length .exit))) ⌝ }
+{
     if mode > 2 {
         return NO_KIND;
     }
@@ -54,7 +59,9 @@ pub extern "C" fn hps_begin(
 
 // Cue: the kind is 0 a point, 1 a loop, 2 a range of this length.
 #[no_mangle]
-pub extern "C" fn hps_cue(kept: &mut [u8], start: u64, kind: u32, range: u64, name: u32) -> u32 {
+pub extern "C" fn hps_cue(kept: &mut [u8], start: u64, kind: u32, range: u64, name: u32) -> u32
+    ensures { λ r. ⌜ Leaves r (now (kept .entry)) (now (kept .exit)) ⌝ }
+{
     if kind > 2 {
         return NO_KIND;
     }
@@ -88,7 +95,9 @@ pub extern "C" fn hps_push(
     lent: &mut [u8],
     offset: &mut usize,
     length: &mut usize,
-) -> u32 {
+) -> u32
+    ensures { λ r. ⌜ (Leaves r (now (kept .entry)) (now (kept .exit))) × (Leaves r (now (lent .entry)) (now (lent .exit))) × (Leaves r (now (offset .entry)) (now (offset .exit))) × (Leaves r (now (length .entry)) (now (length .exit))) ⌝ }
+{
     let w = writer_in(kept);
     if w.slot == 0 {
         return NO_RECORD;
@@ -118,7 +127,9 @@ pub extern "C" fn hps_push(
 
 // Finish: the lent buffer's first 128 bytes are those of the writes to bytes 0-14, 16-127 and 15, in this order. Gives the finished length.
 #[no_mangle]
-pub extern "C" fn hps_finish(kept: &mut [u8], lent: &mut [u8], finished: &mut usize) -> u32 {
+pub extern "C" fn hps_finish(kept: &mut [u8], lent: &mut [u8], finished: &mut usize) -> u32
+    ensures { λ r. ⌜ (Leaves r (now (kept .entry)) (now (kept .exit))) × (Leaves r (now (lent .entry)) (now (lent .exit))) × (Leaves r (now (finished .entry)) (now (finished .exit))) ⌝ }
+{
     let w = writer_in(kept);
     if w.slot == 0 {
         return NO_RECORD;
@@ -144,7 +155,10 @@ pub extern "C" fn hps_estimate(
     channels: usize,
     points: u32,
     length: &mut u64,
-) -> u32 {
+) -> u32
+    ensures { λ r. ⌜ r ≡ numberOf (estimateOf channels (now (lengths .entry)) points) ⌝ }
+    ensures { λ _. ⌜ now (length .exit) ≡ lentAfter (now (length .entry)) (estimateOf channels (now (lengths .entry)) points) ⌝ }
+{
     match estimate(lengths, channels, points) {
         EstimateReply::Refused(number) => number,
         EstimateReply::Length(n) => {

@@ -27,6 +27,9 @@ use reader::opening::open;
 ghost use mathlib.Core.Path.{_≡_};
 ghost use Prim.Native.Nat.{_+_, _<_, _≤_, _^_};
 ghost use lib.ListN.{length};
+ghost use Rattle.reader.specs.OpeningAndReading.{opening, blockRead, dataRemaining};
+ghost use Rattle.kept_reader.specs.KeptReader.{readerIn};
+ghost use Rattle.hps.specs.Exported.{openNumber, keptAfter, onRecord, blockNumber, BlockLent, blockLent, remainingNumber, addressesAfter, Listed};
 
 const CURSOR_SIZE: usize = 32;
 
@@ -40,7 +43,10 @@ struct CuesFilled {
 
 // Opens a slot, and keeps the record in the lent bytes.
 #[no_mangle]
-pub extern "C" fn hps_open(slot: &[u8], kept: &mut [u8]) -> u32 {
+pub extern "C" fn hps_open(slot: &[u8], kept: &mut [u8]) -> u32
+    ensures { λ r. ⌜ r ≡ openNumber (length (now (kept .entry))) (opening (now (slot .entry))) ⌝ }
+    ensures { λ _. ⌜ now (kept .exit) ≡ keptAfter (now (kept .entry)) (now (slot .entry)) (opening (now (slot .entry))) ⌝ }
+{
     if kept.len() < OPENED_SIZE {
         return 14;
     }
@@ -57,7 +63,9 @@ pub extern "C" fn hps_open(slot: &[u8], kept: &mut [u8]) -> u32 {
 }
 
 // The position after this one, no further than a record has blocks.
-fn past(position: usize) -> usize {
+fn past(position: usize) -> usize
+    ensures { λ n. ⌜ (position < 512 → position < n) ⌝ }
+{
     if position < BLOCK_LIMIT {
         position + 1
     } else {
@@ -78,7 +86,13 @@ pub extern "C" fn hps_block(
     context: &mut u16,
     last: &mut i16,
     oldest: &mut i16,
-) -> u32 {
+) -> u32
+    ensures { λ r. ⌜ r ≡ onRecord (readerIn (now (kept .entry))) (blockNumber (blockRead (now (slot .entry)) (readerIn (now (kept .entry))) channel (now (position .entry)))) ⌝ }
+    ensures { λ _. ⌜ _≡_ {A = BlockLent}
+        (record { position = now (position .exit); start = now (start .exit); end = now (end .exit); length = now (length .exit); scale = now (context .exit); last = now (last .exit); oldest = now (oldest .exit) })
+        (blockLent (record { position = now (position .entry); start = now (start .entry); end = now (end .entry); length = now (length .entry); scale = now (context .entry); last = now (last .entry); oldest = now (oldest .entry) })
+        (blockRead (now (slot .entry)) (readerIn (now (kept .entry))) channel (now (position .entry)))) ⌝ }
+{
     let at = *position;
     let r = reader_in(kept, at, past(at));
     if r.count == 0 {
@@ -112,7 +126,10 @@ pub extern "C" fn hps_remaining(
     kept: &[u8],
     position: usize,
     addresses: &mut u64,
-) -> u32 {
+) -> u32
+    ensures { λ r. ⌜ r ≡ onRecord (readerIn (now (kept .entry))) (remainingNumber (dataRemaining (now (slot .entry)) (readerIn (now (kept .entry))) position)) ⌝ }
+    ensures { λ _. ⌜ now (addresses .exit) ≡ addressesAfter (readerIn (now (kept .entry))) (now (addresses .entry)) (dataRemaining (now (slot .entry)) (readerIn (now (kept .entry))) position) ⌝ }
+{
     let r = reader_in(kept, position, BLOCK_LIMIT);
     if r.count == 0 {
         return NO_RECORD;
@@ -269,7 +286,9 @@ pub extern "C" fn hps_cues(
 
 // The listing from its start: as many whole lines as fit into out. It is whole if 60 bytes more would have fitted.
 #[no_mangle]
-pub extern "C" fn hps_listing(slot: &[u8], out: &mut [u8]) -> usize {
+pub extern "C" fn hps_listing(slot: &[u8], out: &mut [u8]) -> usize
+    ensures { λ n. ⌜ Listed (now (slot .entry)) (now (out .entry)) (now (out .exit)) n ⌝ }
+{
     let start = start_listing(slot);
     let r = start.reader;
     let stage = start.stage;

@@ -2,9 +2,13 @@
 use layout::fields::U32Read;
 use layout::fields::read_u32;
 use puts::put_u32;
+ghost use mathlib.Core.Path.{_≡_};
 ghost use Prim.Native.Nat.{_+_, _<_, _^_};
+ghost use Rattle.kept_reader.specs.KeptReader.{wordAt};
 
-pub fn word(s: &[u8], at: usize) -> u32 {
+pub fn word(s: &[u8], at: usize) -> u32
+    ensures { λ n. ⌜ n ≡ wordAt (now (s .entry)) at ⌝ }
+{
     let U32Read::Value(n) = read_u32(s, at) else {
         return 0;
     };

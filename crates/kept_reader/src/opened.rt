@@ -10,8 +10,13 @@ use reader::HpsReader;
 use reader::LoopStart;
 ghost use mathlib.Core.Path.{_≡_};
 ghost use Prim.Native.Nat.{_≤_};
-ghost use lib.ListN.{length};
+ghost use lib.ListN.{length, take};
+ghost use Rattle.layout.specs.Lists.{concat};
+ghost use Rattle.layout.specs.Records.{be32};
+ghost use Rattle.layout.specs.Puts.{putAt};
 ghost use Rattle.reader.specs.OpeningAndReading.{Readable};
+ghost use Rattle.reader.specs.ReaderAnswers.{noReader};
+ghost use Rattle.kept_reader.specs.KeptReader.{loopNumber, loopOf, fileKept, openedBytes, offsetsIn, lesser, partIn};
 
 pub const OPENED_SIZE: usize = 2184;
 
@@ -27,14 +32,18 @@ const OFFSETS_AT: usize = 136;
 
 const NO_LOOP: u32 = 0xFFFF_FFFF;
 
-fn loop_number(start: LoopStart) -> u32 {
+fn loop_number(start: LoopStart) -> u32
+    ensures { λ n. ⌜ n ≡ loopNumber start ⌝ }
+{
     match start {
         LoopStart::None => NO_LOOP,
         LoopStart::Block(i) => (i % 4294967296) as u32,
     }
 }
 
-fn loop_of(number: u32) -> LoopStart {
+fn loop_of(number: u32) -> LoopStart
+    ensures { λ l. ⌜ l ≡ loopOf number ⌝ }
+{
     if number == NO_LOOP {
         LoopStart::None
     } else {
@@ -43,7 +52,8 @@ fn loop_of(number: u32) -> LoopStart {
 }
 
 fn put_offsets(kept: &mut [u8], r: HpsReader)
-    requires { ⌜ Readable r ⌝ }
+    requires { ⌜ Readable r × (2184 ≤ length (now kept)) ⌝ }
+    ensures { λ _. ⌜ now (kept .exit) ≡ putAt (now (kept .entry)) 136 (concat be32 (take (r .blocks) (r .offsets))) ⌝ }
 {
     let mut i: usize = 0;
     while i < r.blocks {
@@ -54,10 +64,10 @@ fn put_offsets(kept: &mut [u8], r: HpsReader)
 }
 
 // The file header; the second channel's place has zeros where it is not in use.
-fn put_file(kept: &mut [u8], s: &[u8], count: usize) {
-    if s.len() < FILE_SIZE {
-        return;
-    }
+fn put_file(kept: &mut [u8], s: &[u8], count: usize)
+    requires { ⌜ (128 ≤ length (now s)) × (2184 ≤ length (now kept)) ⌝ }
+    ensures { λ _. ⌜ now (kept .exit) ≡ putAt (now (kept .entry)) 0 (fileKept (now (s .entry)) count) ⌝ }
+{
     if count == 2 {
         put_bytes(kept, 0, &s[..FILE_SIZE]);
         return;
@@ -68,7 +78,8 @@ fn put_file(kept: &mut [u8], s: &[u8], count: usize) {
 
 // The record of a slot that was opened.
 pub fn put_opened(kept: &mut [u8], s: &[u8], r: HpsReader)
-    requires { ⌜ Readable r ⌝ }
+    requires { ⌜ Readable r × ((128 ≤ length (now s)) × (2184 ≤ length (now kept))) ⌝ }
+    ensures { λ _. ⌜ now (kept .exit) ≡ putAt (now (kept .entry)) 0 (openedBytes (now (s .entry)) r) ⌝ }
 {
     put_file(kept, s, r.count);
     put_u32(kept, BLOCKS_AT, (r.blocks % 4294967296) as u32);
@@ -79,8 +90,8 @@ pub fn put_opened(kept: &mut [u8], s: &[u8], r: HpsReader)
 
 // The offsets of the blocks from one to another, zeros elsewhere.
 fn offsets_in(kept: &[u8], from: usize, to: usize) -> [u32; 512]
-    requires { ⌜ to ≤ 512 ⌝ }
-    ensures { λ r. ⌜ length r ≡ 512 ⌝ }
+    requires { ⌜ (to ≤ 512) × (2184 ≤ length (now kept)) ⌝ }
+    ensures { λ r. ⌜ r ≡ offsetsIn (now (kept .entry)) from to 512 0 ⌝ }
 {
     let mut offsets = [0u32; 512];
     let mut i = from;
@@ -91,7 +102,8 @@ fn offsets_in(kept: &[u8], from: usize, to: usize) -> [u32; 512]
     offsets
 }
 
-fn lesser(a: usize, b: usize) -> usize
+fn least(a: usize, b: usize) -> usize
+    ensures { λ r. ⌜ r ≡ lesser a b ⌝ }
     ensures { λ r. ⌜ r ≤ b ⌝ }
 {
     if a < b { a } else { b }
@@ -99,8 +111,7 @@ fn lesser(a: usize, b: usize) -> usize
 
 // A record of no channel: it stands for bytes that hold no record.
 fn no_reader() -> HpsReader
-    ensures { λ r. ⌜ Readable r ⌝ }
-    ensures { λ r. ⌜ length (r .offsets) ≡ 512 ⌝ }
+    ensures { λ r. ⌜ r ≡ noReader ⌝ }
 {
     let none = no_channel();
     let channels = [none; 2];
@@ -119,8 +130,8 @@ fn no_reader() -> HpsReader
 // The record that lent bytes hold, one of no channel where they hold none. Whatever they are, it meets the premise of the reading calls.
 // Of the offsets it has those of the blocks from one to another, which are all that the call needs.
 pub fn reader_in(kept: &[u8], from: usize, to: usize) -> HpsReader
+    ensures { λ r. ⌜ r ≡ partIn (now (kept .entry)) from to ⌝ }
     ensures { λ r. ⌜ Readable r ⌝ }
-    ensures { λ r. ⌜ length (r .offsets) ≡ 512 ⌝ }
 {
     if kept.len() < OPENED_SIZE {
         return no_reader();
@@ -146,7 +157,7 @@ pub fn reader_in(kept: &[u8], from: usize, to: usize) -> HpsReader
     let l = left.channel;
     let r = right.channel;
     let channels = [l, r];
-    let offsets = offsets_in(kept, from, lesser(to, blocks));
+    let offsets = offsets_in(kept, from, least(to, blocks));
     let loop_start = loop_of(word(kept, LOOP_AT));
     HpsReader {
         rate: word(kept, 8),

@@ -140,12 +140,12 @@ module _ {s : List ℕ} {r : HpsReader} {from : Stage} {before : List ℕ} where
           fits = f .fits;
           put = g .is;
           rest = g .rest ∙ ap (λ (t : Stage). g .lines ++ listingFrom s r t) (l .done z);
-          done = λ a b. refl;
+          done = λ a. refl;
         }
 
     -- the buffer is full
     pub filled-all : length before < at + 60 → FilledIs s r from before out (record { length = at; stage = stage })
-    filled-all h = record { lines = f .lines; long = f .long; fits = f .fits; put = f .is; rest = f .rest; done = λ a b. absurd (omega arith) }
+    filled-all h = record { lines = f .lines; long = f .long; fits = f .fits; put = f .is; rest = f .rest; done = λ a. absurd (omega arith) }
 
 -- the lines are the first bytes of the buffer
 pub filled-prefix : {s : List ℕ} {r : HpsReader} {stage : Stage} {before after : List ℕ} {q : Line} → FilledIs s r stage before after q → q .length ≡ length (take (q .length) after)

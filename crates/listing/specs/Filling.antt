@@ -18,11 +18,11 @@ pub record LineIs (s : List ℕ) (r : HpsReader) (stage : Stage) (before : List 
   pub rest : listingFrom s r stage ≡ line ++ listingFrom s r (q .stage)
   pub done : q .length ≡ 0 → q .stage ≡ Stage.Done
 
--- As many lines as fit.
+-- As many lines as fit: where a longest line would still have fitted, none is left.
 pub record FilledIs (s : List ℕ) (r : HpsReader) (stage : Stage) (before after : List ℕ) (q : Line) : Type 0 where
   pub lines : List ℕ
   pub long : length lines ≡ q .length
   pub fits : q .length ≤ length before
   pub put : after ≡ putAt before 0 lines
   pub rest : listingFrom s r stage ≡ lines ++ listingFrom s r (q .stage)
-  pub done : 60 ≤ length before → q .length ≡ 0 → q .stage ≡ Stage.Done
+  pub done : q .length + 60 ≤ length before → q .stage ≡ Stage.Done

@@ -50,7 +50,11 @@ pub record Parts (s : List ℕ) (r : HpsReader) : Type 0 where
   pub right : Channel
   pub offsets : List ℕ
   pub start : LoopStart
+  pub rate-read : field s 12 (u32At s 8) ≡ Read.value rate
+  pub count-read : field s 16 (u32At s 12) ≡ Read.value count
   pub right-count : wrongCount count ≡ false
+  pub left-read : readChannel s 16 ≡ Read.value left
+  pub right-read : readChannel s 72 ≡ Read.value right
   pub walk : walkFrom 512 s [] 128 ≡ Walked.walked offsets start
   pub is : made rate count left right offsets start ≡ r
 
@@ -73,7 +77,11 @@ opened-parts s r e =
       right = x .0;
       offsets = w .0;
       start = w .1;
+      rate-read = d .1;
+      count-read = f .1;
       right-count = g .0;
+      left-read = l .1;
+      right-read = x .1;
       walk = w .2;
       is = same-record {x = made (d .0) (f .0) (l .0) (x .0) (w .0) (w .1)} (w .3);
     }

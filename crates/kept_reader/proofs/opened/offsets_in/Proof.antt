@@ -1,8 +1,7 @@
-use Prim.Native.Nat.{_-_, _≤_}
-use mathlib.Core.Path.{_≡_}
-use native.Mathlib.Omega.{arith}
-use lib.ListN.{length}
 use borrow.Author.Needs.{needs}
+use Prim.Native.Nat.{_-_}
+use native.Mathlib.Omega.{arith}
+use Rattle.kept_reader.proofs.KeptReads.{OffsetsRead, offsets-unread, offsets-next, offsets-read}
 use Rattle.kept_reader.proofs.opened.offsets_in.Statement.{statement}
 use Rattle.kept_reader.proofs.opened.offsets_in.Tie as tie
 use Rattle.kept_reader.proofs.opened.offsets_in.Reads as reads
@@ -10,13 +9,13 @@ use Rattle.kept_reader.proofs.opened.offsets_in.Lts as lts
 use Rattle.kept_reader.proofs.fields.word.Reads as word-reads
 
 abbrev Inv-loop : tie.InvT-loop
-Inv-loop kept from to offsets₀ i₀ offsets i = length offsets ≡ 512
+Inv-loop kept from to offsets₀ i₀ offsets i = OffsetsRead kept from to offsets i
 
 abbrev μ-loop : tie.MeasureT-loop
 μ-loop kept from to offsets₀ i₀ offsets i = to - i
 
 loop-holds : tie.Need-loop-holds Inv-loop μ-loop
-loop-holds c = search needs
+loop-holds c = offsets-unread
 
 mul-word : tie.Need-mul-word Inv-loop μ-loop
 mul-word c = search needs
@@ -40,10 +39,10 @@ loop-less : tie.Need-loop-less Inv-loop μ-loop
 loop-less c = search needs
 
 loop-again : tie.Need-loop-again Inv-loop μ-loop
-loop-again c = search needs
+loop-again c = search (offsets-next, needs)
 
 returns : tie.Need-returns Inv-loop μ-loop
-returns c = search needs
+returns c = search (offsets-read, needs)
 
 pub offsets-in-spec : {M : Type 1} → statement M
 offsets-in-spec =

@@ -1,5 +1,6 @@
-use native.Mathlib.Omega.{arith}
 use lib.ListN.{length-take}
+use native.Mathlib.Omega.{arith}
+use Rattle.kept_reader.proofs.KeptPuts.{both-channels, one-channel}
 use borrow.Author.Needs.{needs}
 use Rattle.kept_reader.proofs.opened.put_file.Statement.{statement}
 use Rattle.kept_reader.proofs.opened.put_file.Tie as tie
@@ -8,57 +9,43 @@ use Rattle.kept_reader.proofs.opened.put_file.Lts as lts
 use Rattle.puts.proofs.put_bytes.Reads as put-bytes-reads
 use Rattle.puts.proofs.put_zeros.Reads as put-zeros-reads
 
--- src/opened.rt:65:9
-returns : tie.Need-returns
-returns c = search needs
-
--- src/opened.rt:68:28
 slice-aggregate-put-bytes : tie.Need-slice-aggregate-put-bytes
 slice-aggregate-put-bytes c = rw length-take (omega arith)
 
--- src/opened.rt:68:9
 put-bytes-requires : tie.Need-put-bytes-requires
 put-bytes-requires c κs = search needs
 
--- src/opened.rt:69:9
 same-length : tie.Need-same-length
 same-length c = search needs
 
--- src/opened.rt:69:9
-returns-2 : tie.Need-returns-2
-returns-2 c = search needs
+returns : tie.Need-returns
+returns c = search (both-channels, needs)
 
--- src/opened.rt:71:24
 slice-aggregate-put-bytes-2 : tie.Need-slice-aggregate-put-bytes-2
 slice-aggregate-put-bytes-2 c = rw length-take (omega arith)
 
--- src/opened.rt:71:5
 put-bytes-requires-2 : tie.Need-put-bytes-requires-2
 put-bytes-requires-2 c κs = search needs
 
--- src/opened.rt:72:5
 put-zeros-requires : tie.Need-put-zeros-requires
 put-zeros-requires c κs = search needs
 
--- src/opened.rt:63:1
 same-length-2 : tie.Need-same-length-2
 same-length-2 c = search needs
 
--- src/opened.rt:63:1
-returns-3 : tie.Need-returns-3
-returns-3 c = search needs
+returns-2 : tie.Need-returns-2
+returns-2 c = search (one-channel, needs)
 
 pub put-file-spec : {M : Type 1} → statement M
 put-file-spec =
     tie.close
     (tie.spec
-    returns
     slice-aggregate-put-bytes
     put-bytes-requires
     same-length
-    returns-2
+    returns
     slice-aggregate-put-bytes-2
     put-bytes-requires-2
     put-zeros-requires
     same-length-2
-    returns-3)
+    returns-2)

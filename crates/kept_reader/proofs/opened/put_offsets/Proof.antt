@@ -1,8 +1,8 @@
-use Prim.Native.Nat.{_-_, _≤_}
-use mathlib.Core.Path.{_≡_}
-use native.Mathlib.Omega.{arith}
-use lib.ListN.{length}
+use Rattle.reader.proofs.RecordLaws.{shaped}
 use borrow.Author.Needs.{needs}
+use Prim.Native.Nat.{_-_}
+use native.Mathlib.Omega.{arith}
+use Rattle.kept_reader.proofs.KeptPuts.{OffsetsPut, offsets-none, offsets-more, offsets-all}
 use Rattle.kept_reader.proofs.opened.put_offsets.Statement.{statement}
 use Rattle.kept_reader.proofs.opened.put_offsets.Tie as tie
 use Rattle.kept_reader.proofs.opened.put_offsets.Reads as reads
@@ -10,13 +10,16 @@ use Rattle.kept_reader.proofs.opened.put_offsets.Lts as lts
 use Rattle.puts.proofs.put_u32.Reads as put-u32-reads
 
 abbrev Inv-loop : tie.InvT-loop
-Inv-loop kept₀ r i₀ kept i = (length kept ≡ length kept₀) × (i ≤ r .blocks)
+Inv-loop kept₀ r i₀ kept i = OffsetsPut kept₀ (r .offsets) (r .blocks) kept i
 
 abbrev μ-loop : tie.MeasureT-loop
 μ-loop kept₀ r i₀ kept i = r .blocks - i
 
 loop-holds : tie.Need-loop-holds Inv-loop μ-loop
-loop-holds c = search needs
+loop-holds c =
+    let z = c .before in
+    let s = shaped (z .args .t2) _ (z .good .1 .0) in
+    offsets-none (omega (arith, s .offsets, z .pre .0 .blocks)) (omega (arith, z .pre .0 .blocks, z .pre .1))
 
 mul-offset : tie.Need-mul-offset Inv-loop μ-loop
 mul-offset c = search needs
@@ -40,13 +43,13 @@ loop-less : tie.Need-loop-less Inv-loop μ-loop
 loop-less c = search needs
 
 loop-again : tie.Need-loop-again Inv-loop μ-loop
-loop-again c = search needs
+loop-again c = search (offsets-more, needs)
 
 same-length : tie.Need-same-length Inv-loop μ-loop
 same-length c = search needs
 
 returns : tie.Need-returns Inv-loop μ-loop
-returns c = search needs
+returns c = search (offsets-all, needs)
 
 pub put-offsets-spec : {M : Type 1} → statement M
 put-offsets-spec =

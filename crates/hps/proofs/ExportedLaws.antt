@@ -1,0 +1,172 @@
+-- The exported calls' answers, from what the calls below them return.
+use Prim.Native.Nat.{ℕ, _+_, _≤_, _<_}
+use mathlib.Core.Path.{_≡_, refl, sym, ap, _∙_}
+use mathlib.Core.List.{List, [], _∷_, _++_, append-nil}
+use native.Mathlib.Omega.{arith}
+use lib.ListN.{length, take, length-append}
+use lib.Seq.{take-at}
+use lib.Dec.{leb, eqb}
+use borrow.Author.Tests.{lt-ltb, le-ltb, le-leb, leb-true, leb-false, eq-eqb, ne-eqb}
+use Rattle.layout.specs.Records.{u16At, field, on, Read, formatOf, channelAt, readChannel}
+use Rattle.layout.specs.declared.Channel.{Channel}
+use Rattle.layout.specs.declared.DspFormat.{DspFormat}
+use Rattle.layout.proofs.Cases.{by-cases}
+use Rattle.layout.proofs.FieldLaws.{field-inside, field-past}
+use Rattle.layout.specs.Puts.{putAt}
+use Rattle.writer.specs.Loading.{Answer, accepted, refused, Push, beginRefusal, beginWrites, pushRefusal, finishRefusal, headerWrites}
+use Rattle.writer.specs.Calls.{outcome, replyOf, called, finished, beginOf, pushOf, finishOf, blank, emptyOf, standingIn, takenOf, afterPush, pushBytes, afterFinish, headerOf}
+use Rattle.writer.specs.WritesAndCuttingRule.{Write, write}
+use Rattle.writer.specs.declared.HpsWriter.{HpsWriter}
+use Rattle.writer.specs.declared.Looping.{Looping}
+use Rattle.writer.specs.declared.Reply.{Reply}
+use Rattle.writer.specs.declared.Called.{Called}
+use Rattle.writer.specs.declared.Finished.{Finished}
+use Rattle.estimate.specs.EstimateAnswers.{estimateReply}
+use Rattle.estimate.specs.declared.EstimateReply.{EstimateReply}
+use Rattle.reader.specs.OpeningAndReading.{Opened, opening, blockRead, Remaining}
+use Rattle.reader.proofs.OpenedLaws.{opened-parts}
+use Rattle.kept_reader.specs.KeptReader.{openedBytes}
+use Rattle.reader.specs.declared.HpsReader.{HpsReader}
+use Rattle.listing.specs.MarkingKey.{listing, listingFrom}
+use Rattle.listing.specs.Filling.{FilledIs}
+use Rattle.listing.specs.declared.Stage.{Stage}
+use Rattle.listing.specs.declared.listing.Line.{Line}
+use Rattle.hps.specs.Exported.{numberOf, lentAfter, openNumber, keptAfter, onRecord, BlockLent, blockLent, addressesAfter, Listed}
+
+-- ---- The estimate
+
+not-both : {A : Type 0} (m n : ℕ) → EstimateReply.Length m ≡ EstimateReply.Refused n → A
+not-both m n e = absurd (let z : _≡_ {A = ℕ} 0 1 = cc in omega arith)
+
+pub estimate-refused : (a : Answer) (q : EstimateReply) (n : ℕ) → q ≡ estimateReply a → q ≡ EstimateReply.Refused n → n ≡ numberOf a
+estimate-refused (refused m) q n e f = cc
+estimate-refused (accepted m) q n e f = not-both m n (sym e ∙ f)
+
+pub estimate-left : (a : Answer) (q : EstimateReply) (n before : ℕ) → q ≡ estimateReply a → q ≡ EstimateReply.Refused n → before ≡ lentAfter before a
+estimate-left (refused m) q n before e f = refl
+estimate-left (accepted m) q n before e f = not-both m n (sym e ∙ f)
+
+pub estimate-accepted : (a : Answer) (q : EstimateReply) (n : ℕ) → q ≡ estimateReply a → q ≡ EstimateReply.Length n → 0 ≡ numberOf a
+estimate-accepted (refused m) q n e f = not-both n m (sym f ∙ e)
+estimate-accepted (accepted m) q n e f = refl
+
+pub estimate-given : (a : Answer) (q : EstimateReply) (n before : ℕ) → q ≡ estimateReply a → q ≡ EstimateReply.Length n → n ≡ lentAfter before a
+estimate-given (refused m) q n before e f = not-both n m (sym f ∙ e)
+estimate-given (accepted m) q n before e f = cc
+
+-- ---- Opening
+
+module _ (kept s : List ℕ) (o : Opened) where
+  module _ (h : length kept < 2184) where
+    pub no-room : 14 ≡ openNumber (length kept) o
+    no-room = of o
+      where
+        of : (o : Opened) → 14 ≡ openNumber (length kept) o
+        of (Opened.refused n) = rw (lt-ltb (length kept) 2184 h)
+        of (Opened.opened r) = rw (lt-ltb (length kept) 2184 h)
+
+    pub no-room-kept : kept ≡ keptAfter kept s o
+    no-room-kept = of o
+      where
+        of : (o : Opened) → kept ≡ keptAfter kept s o
+        of (Opened.refused n) = refl
+        of (Opened.opened r) = rw (lt-ltb (length kept) 2184 h)
+
+  pub open-refused : (n : ℕ) → o ≡ Opened.refused n → 2184 ≤ length kept → n ≡ openNumber (length kept) o
+  open-refused n e h = rw (e, le-ltb (length kept) 2184 h)
+
+  pub open-left : (n : ℕ) → o ≡ Opened.refused n → kept ≡ keptAfter kept s o
+  open-left n e = rw e
+
+  pub open-opened : (r : HpsReader) → o ≡ Opened.opened r → 2184 ≤ length kept → 0 ≡ openNumber (length kept) o
+  open-opened r e h = rw (e, le-ltb (length kept) 2184 h)
+
+  pub open-kept : {after : List ℕ} (r : HpsReader) → o ≡ Opened.opened r → 2184 ≤ length kept → after ≡ putAt kept 0 (openedBytes s r) → after ≡ keptAfter kept s o
+  open-kept r e h f = rw (e, le-ltb (length kept) 2184 h) f
+
+-- a slot that opens has a whole header
+channel-inside : (s : List ℕ) (c : Channel) → readChannel s 72 ≡ Read.value c → 128 ≤ length s
+unfolding readChannel
+channel-inside s c e =
+    by-cases (leb 128 (length s)) (λ t. leb-true 128 (length s) t)
+    (λ t.
+    let h = leb-false 128 (length s) t in
+    absurd (by-cases (leb 76 (length s))
+    (λ u.
+    let k = rw (field-inside s 76 (u16At s 74) (leb-true 76 (length s) u)) at e in
+    formats (formatOf (u16At s 74)) (λ f. field-past s 128 (channelAt s 72 f) h) k)
+    (λ u.
+    let k = rw (field-past s 76 (u16At s 74) (leb-false 76 (length s) u)) at e in
+    apart-read 1 c k)))
+  where
+    apart-read : (n : ℕ) (c : Channel) → Read.refused n ≡ Read.value c → ⊥
+    apart-read n c e = let z : _≡_ {A = ℕ} 0 1 = cc in omega arith
+
+    formats : (q : Read DspFormat) → ((f : DspFormat) → field s 128 (channelAt s 72 f) ≡ Read.refused 1) → on q Read.refused (λ f. field s 128 (channelAt s 72 f)) ≡ Read.value c → ⊥
+    formats (Read.refused n) g e = apart-read n c e
+    formats (Read.value f) g e = apart-read 1 c (sym (g f) ∙ e)
+
+pub opened-long : (s : List ℕ) (r : HpsReader) → opening s ≡ Opened.opened r → 128 ≤ length s
+opened-long s r e = channel-inside s _ (opened-parts s r e .right-read)
+
+-- ---- A block read
+
+module _ (r : HpsReader) where
+  pub no-record : (n : ℕ) → r .count ≡ 0 → 254 ≡ onRecord r n
+  no-record n h = rw (eq-eqb (r .count) 0 h)
+
+  pub a-record : (n : ℕ) → (r .count ≡ 0 → ⊥) → n ≡ onRecord r n
+  a-record n h = rw (ne-eqb (r .count) 0 h)
+
+  pub no-block : (s : List ℕ) (ch i : ℕ) (b : BlockLent) → r .count ≡ 0 → b ≡ blockLent b (blockRead s r ch i)
+  unfolding blockRead
+  no-block s ch i b h = rw (le-leb (r .count) ch (omega arith))
+
+  pub no-sum : (before : ℕ) (a : Remaining) → r .count ≡ 0 → before ≡ addressesAfter r before a
+  no-sum before (Remaining.refused n) h = refl
+  no-sum before (Remaining.addresses n) h = rw (eq-eqb (r .count) 0 h)
+
+-- ---- The listing
+
+done-listing : (s : List ℕ) (r : HpsReader) (stage : Stage) → stage ≡ Stage.Done → listingFrom s r stage ≡ []
+unfolding listingFrom
+done-listing s r stage e = rw e
+
+pub listed : {s : List ℕ} {r : HpsReader} {stage : Stage} {before after : List ℕ} {q : Line} → FilledIs s r stage before after q → listingFrom s r stage ≡ listing s
+    → Listed s before after (q .length)
+listed {s} {r} {stage} {before} {after} {q} f e =
+    let rest = listingFrom s r (q .stage) in
+    let is : listing s ≡ f .lines ++ rest = sym e ∙ f .rest in
+    let n : length (listing s) ≡ length (f .lines) + length rest = ap length is ∙ length-append (f .lines) rest in
+    let l = f .long in
+    let first : take (q .length) (listing s) ≡ f .lines = ap (take (q .length)) is ∙ take-at (f .lines) rest (q .length) l in
+    record {
+      start = f .put ∙ ap (putAt before 0) (sym first);
+      fits = f .fits;
+      within = omega arith;
+      whole = λ h. let z : length rest ≡ 0 = ap length (done-listing s r (q .stage) (f .done h)) in omega arith;
+    }
+
+-- ---- Loading calls
+
+pub accepted-leaves : {A : Type 0} {x y : A} → 0 < 0 → x ≡ y
+accepted-leaves h = absurd (omega arith)
+
+outcome-left : (number : ℕ) (w next : HpsWriter) (lent : List ℕ) (m : ℕ) (ws : List Write) (n : ℕ) → replyOf (outcome number w lent next m ws .answer) ≡ Reply.Refused n → outcome number w lent next m ws .lent ≡ lent
+outcome-left number w next lent m ws n e =
+    by-cases (eqb number 0)
+    (λ t. let k = rw t at e in absurd (let z : _≡_ {A = ℕ} 0 1 = cc in omega arith))
+    (λ t. rw t)
+
+module _ (q : Called) (n : ℕ) where
+  pub begin-left : (slot channels : ℕ) (mode : Looping) (lent : List ℕ) → q ≡ called (beginOf slot channels mode lent) → q .reply ≡ Reply.Refused n → beginOf slot channels mode lent .lent ≡ lent
+  unfolding beginOf
+  begin-left slot channels mode lent e f = outcome-left (beginRefusal slot channels (length lent)) blank (emptyOf slot channels mode) lent 0 beginWrites n (sym (ap (λ (x : Called). x .reply) e) ∙ f)
+
+  pub push-left : (w : HpsWriter) (p : Push) (lent : List ℕ) → q ≡ called (pushOf w p lent) → q .reply ≡ Reply.Refused n → pushOf w p lent .lent ≡ lent
+  unfolding pushOf
+  push-left w p lent e f = outcome-left (pushRefusal (standingIn w) (takenOf w p) p (length lent)) w (afterPush w p) lent 0 (write (w .offset) (pushBytes w p) ∷ []) n (sym (ap (λ (x : Called). x .reply) e) ∙ f)
+
+pub finish-left : (q : Finished) (n : ℕ) (w : HpsWriter) (lent : List ℕ) → q ≡ finished (finishOf w lent) → q .reply ≡ Reply.Refused n → finishOf w lent .lent ≡ lent
+unfolding finishOf
+finish-left q n w lent e f = outcome-left (finishRefusal (w .finished) (w .blocks) (w .last) (length lent)) w (afterFinish w) lent (w .offset) (headerWrites (headerOf w)) n (sym (ap (λ (x : Finished). x .reply) e) ∙ f)

@@ -1,0 +1,2 @@
+pub mod ExportedLaws
+pub mod KeptCalls

@@ -1,0 +1,26 @@
+use borrow.Author.Needs.{needs}
+use Rattle.hps.proofs.ExportedLaws.{estimate-refused, estimate-left, estimate-accepted, estimate-given}
+use Rattle.hps.proofs.loading.hps_estimate.Statement.{statement}
+use Rattle.hps.proofs.loading.hps_estimate.Tie as tie
+use Rattle.hps.proofs.loading.hps_estimate.Reads as reads
+use Rattle.hps.proofs.loading.hps_estimate.Lts as lts
+use Rattle.estimate.proofs.estimate.Reads as estimate-reads
+
+estimate-requires : tie.Need-estimate-requires
+estimate-requires c κs = search needs
+
+enum-known-number : tie.Need-enum-known-number
+enum-known-number c = search needs
+
+enum-known-n : tie.Need-enum-known-n
+enum-known-n c = search needs
+
+returns : tie.Need-returns
+returns c = search (estimate-refused, estimate-left, needs)
+
+returns-2 : tie.Need-returns-2
+returns-2 c = search (estimate-accepted, estimate-given, needs)
+
+pub hps-estimate-spec : {M : Type 1} → statement M
+hps-estimate-spec =
+    tie.close (tie.spec estimate-requires enum-known-number enum-known-n returns returns-2)

@@ -1,0 +1,55 @@
+use denote.Ref.{now}
+use borrow.Author.Needs.{needs}
+use Rattle.hps.proofs.ExportedLaws.{no-room, no-room-kept, open-refused, open-left, open-opened, open-kept, opened-long}
+use Rattle.listing.proofs.StartLaws.{call-refused, call-opened}
+use Rattle.hps.proofs.reading.hps_open.Statement.{statement}
+use Rattle.hps.proofs.reading.hps_open.Tie as tie
+use Rattle.hps.proofs.reading.hps_open.Reads as reads
+use Rattle.hps.proofs.reading.hps_open.Lts as lts
+use Rattle.kept_reader.proofs.opened.put_opened.Reads as put-opened-reads
+use Rattle.reader.proofs.opening.open.Reads as open-reads
+
+returns : tie.Need-returns
+returns c = search (no-room, no-room-kept, needs)
+
+open-requires : tie.Need-open-requires
+open-requires c κs = search needs
+
+enum-known-reply : tie.Need-enum-known-reply
+enum-known-reply c = search needs
+
+enum-told : tie.Need-enum-told
+enum-told c = search needs
+
+put-opened-requires : tie.Need-put-opened-requires
+put-opened-requires c κs = (c .before .before .before .before .open .ensures .1, (opened-long _ _ (call-opened _ _ (c .before .before .before .before .open .ensures .0) (c .before .enum-told .given .1)), c .before .before .before .before .before .if1 .left))
+
+returns-2 : tie.Need-returns-2
+returns-2 c =
+    let s = now (c .before .before .before .before .before .before .before .before .args .slot) in
+    let k = now (c .before .before .before .before .before .before .before .before .args .kept) in
+    let e = call-refused s _ (c .before .before .before .before .open .ensures .0) _ (c .before .reply .given .1) in
+    (open-refused k s _ _ e (c .before .before .before .before .before .if1 .left), open-left k s _ _ e)
+
+same-length : tie.Need-same-length
+same-length c = search needs
+
+returns-3 : tie.Need-returns-3
+returns-3 c =
+    let s = now (c .before .before .before .before .before .before .before .before .before .before .before .args .slot) in
+    let k = now (c .before .before .before .before .before .before .before .before .before .before .before .args .kept) in
+    let e = call-opened s _ (c .before .before .before .before .before .before .before .open .ensures .0) (c .before .before .before .before .enum-told .given .1) in
+    (open-opened k s _ _ e (c .before .before .before .before .before .before .before .before .if1 .left), open-kept k s _ _ e (c .before .before .before .before .before .before .before .before .if1 .left) (c .before .before .put-opened .ensures))
+
+pub hps-open-spec : {M : Type 1} → statement M
+hps-open-spec =
+    tie.close
+    (tie.spec
+    returns
+    open-requires
+    enum-known-reply
+    enum-told
+    put-opened-requires
+    returns-2
+    same-length
+    returns-3)

@@ -1,0 +1,93 @@
+-- What the exported calls give: a number, and what the lent numbers and bytes hold after it.
+use Prim.Native.Nat.{ℕ, _+_, _≤_, _<_}
+use mathlib.Core.Path.{_≡_}
+use mathlib.Core.List.{List}
+use lib.ListN.{length, take}
+use lib.Dec.{ltb, eqb}
+use lib.IntN.{ℤ}
+use Rattle.layout.specs.Choice.{pick}
+use Rattle.layout.specs.Puts.{putAt}
+use Rattle.writer.specs.Loading.{Answer, accepted, refused}
+use Rattle.reader.specs.OpeningAndReading.{Opened, BlockAnswer, Remaining}
+use Rattle.reader.specs.declared.HpsReader.{HpsReader}
+use Rattle.kept_reader.specs.KeptReader.{openedSize, openedBytes}
+use Rattle.listing.specs.MarkingKey.{listing}
+
+-- The refusal's number, 0 where the call is accepted.
+abbrev pub numberOf : Answer → ℕ
+numberOf (refused n) = n
+numberOf (accepted m) = 0
+
+-- A lent number after the call: what an accepted call gives; a refused one leaves it.
+abbrev pub lentAfter : (before : ℕ) → Answer → ℕ
+lentAfter before (refused n) = before
+lentAfter before (accepted m) = m
+
+-- ---- Opening
+
+-- 14 where the lent bytes are too few for a record, else the opening's refusal or 0.
+abbrev pub openNumber : (room : ℕ) → Opened → ℕ
+openNumber room (Opened.refused n) = pick (ltb room openedSize) 14 n
+openNumber room (Opened.opened r) = pick (ltb room openedSize) 14 0
+
+-- The lent bytes after an opening of this slot: the record where there is one and room for it, else as they were.
+abbrev pub keptAfter : (kept slot : List ℕ) → Opened → List ℕ
+keptAfter kept s (Opened.refused n) = kept
+keptAfter kept s (Opened.opened r) = pick (ltb (length kept) openedSize) kept (putAt kept 0 (openedBytes s r))
+
+-- ---- Calls on a kept record
+
+-- The number of a call: 254 where the bytes hold no record.
+abbrev pub onRecord : HpsReader → (number : ℕ) → ℕ
+onRecord r n = pick (eqb (r .count) 0) 254 n
+
+-- A block read's number, 255 for the end.
+abbrev pub blockNumber : BlockAnswer → ℕ
+blockNumber (BlockAnswer.refused n) = n
+blockNumber (BlockAnswer.refusedAt n j) = n
+blockNumber BlockAnswer.ended = 255
+blockNumber (BlockAnswer.gave rate f cs gain len c start bytes j) = 0
+
+-- The numbers lent to a block read.
+pub record BlockLent : Type 0 where
+  pub position : ℕ
+  pub start : ℕ
+  pub end : ℕ
+  pub length : ℕ
+  pub scale : ℕ
+  pub last : ℤ
+  pub oldest : ℤ
+
+-- The same after it: with 1 the position has moved, with a block all are given, else all are left. (Where there is no record the answer is 6.)
+abbrev pub blockLent : BlockLent → BlockAnswer → BlockLent
+blockLent b (BlockAnswer.refused n) = b
+blockLent b (BlockAnswer.refusedAt n j) =
+    record { position = j; start = b .start; end = b .end; length = b .length; scale = b .scale; last = b .last; oldest = b .oldest }
+blockLent b BlockAnswer.ended = b
+blockLent b (BlockAnswer.gave rate f cs gain len c start bytes j) =
+    record { position = j; start = start; end = start + length bytes; length = len; scale = c .«predictor_and_scale»; last = c .last; oldest = c .oldest }
+
+-- The number of addresses remaining.
+abbrev pub remainingNumber : Remaining → ℕ
+remainingNumber (Remaining.refused n) = n
+remainingNumber (Remaining.addresses n) = 0
+
+-- The number lent for the sum, after the call.
+abbrev pub addressesAfter : HpsReader → (before : ℕ) → Remaining → ℕ
+addressesAfter r before (Remaining.refused n) = before
+addressesAfter r before (Remaining.addresses n) = pick (eqb (r .count) 0) before n
+
+-- ---- Listing
+
+-- So many bytes from the listing's start, the rest of the buffer unchanged; where a longest line would still have fitted, they are the whole listing.
+pub record Listed (s before after : List ℕ) (n : ℕ) : Type 0 where
+  pub start : after ≡ putAt before 0 (take n (listing s))
+  pub fits : n ≤ length before
+  pub within : n ≤ length (listing s)
+  pub whole : n + 60 ≤ length before → n ≡ length (listing s)
+
+-- ---- Loading calls
+
+-- A call that gives a number other than 0 leaves what it was lent as it was.
+abbrev pub Leaves : {A : Type 0} → (number : ℕ) → (before after : A) → Type 0
+Leaves n before after = 0 < n → after ≡ before

@@ -1,0 +1,3 @@
+pub mod KeptPuts
+pub mod KeptReads
+pub mod PartLaws

@@ -1,0 +1,16 @@
+use mathlib.Core.Path.{_≡_}
+use borrow.Author.Needs.{needs}
+use Rattle.kept_reader.proofs.opened.no_reader.Statement.{statement}
+use Rattle.kept_reader.proofs.opened.no_reader.Tie as tie
+use Rattle.kept_reader.proofs.opened.no_reader.Reads as reads
+use Rattle.kept_reader.proofs.opened.no_reader.Lts as lts
+use Rattle.layout.proofs.channels.no_channel.Reads as no-channel-reads
+
+no-channel-requires : tie.Need-no-channel-requires
+no-channel-requires c κs = search needs
+
+returns : tie.Need-returns
+returns c = rw (c .no-channel .ensures)
+
+pub no-reader-spec : {M : Type 1} → statement M
+no-reader-spec = tie.close (tie.spec no-channel-requires returns)

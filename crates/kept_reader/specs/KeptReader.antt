@@ -1,0 +1,67 @@
+-- The opening record in lent bytes: the bytes that are put for it, and the record that bytes stand for.
+use Prim.Native.Nat.{ℕ, zero, suc, _+_, _*_, _%_}
+use mathlib.Core.List.{List, [], _∷_, _++_}
+use lib.ListN.{length, take, replicate}
+use lib.Dec.{ltb, leb, eqb}
+use Rattle.layout.specs.Choice.{pick, _and_}
+use Rattle.layout.specs.Lists.{concat}
+use Rattle.layout.specs.Records.{u32At, be32, on, readChannel}
+use Rattle.layout.specs.Refusals.{blockLimit}
+use Rattle.reader.specs.declared.LoopStart.{LoopStart}
+use Rattle.reader.specs.declared.LoopStart.the-variants.{None, Block}
+use Rattle.reader.specs.declared.HpsReader.{HpsReader}
+use Rattle.reader.specs.ReaderAnswers.{noReader}
+
+-- A u32 at an offset, 0 where it is not wholly there.
+unfoldable pub wordAt : List ℕ → ℕ → ℕ
+wordAt s at = pick (leb (at + 4) (length s)) (u32At s at) 0
+
+-- The bytes of a record.
+abbrev pub openedSize : ℕ
+openedSize = 2184
+
+-- The number for no loop.
+abbrev pub noLoop : ℕ
+noLoop = 4294967295
+
+-- The loop start as a u32.
+abbrev pub loopNumber : LoopStart → ℕ
+loopNumber None = noLoop
+loopNumber (Block i) = i % 4294967296
+
+-- The same, read.
+abbrev pub loopOf : ℕ → LoopStart
+loopOf n = pick (eqb n noLoop) None (Block n)
+
+-- The file header, with zeros for a channel that is not in use.
+unfoldable pub fileKept : List ℕ → (count : ℕ) → List ℕ
+fileKept s count = pick (eqb count 2) (take 128 s) (take 72 s ++ replicate 56 0)
+
+-- The record of a slot that was opened: file header, count of blocks, loop start, the blocks' offsets.
+unfoldable pub openedBytes : List ℕ → HpsReader → List ℕ
+openedBytes s r =
+    ((fileKept s (r .count) ++ be32 (r .blocks)) ++ be32 (loopNumber (r .«loop_start»))) ++ concat be32 (take (r .blocks) (r .offsets))
+
+-- The offsets of n blocks from block i on: those from one block to another as they stand there, zeros elsewhere.
+unfoldable pub offsetsIn : List ℕ → (from to : ℕ) → (n i : ℕ) → List ℕ
+offsetsIn kept from to zero i = []
+offsetsIn kept from to (suc n) i = pick (leb from i and ltb i to) (u32At kept (136 + 4 * i)) 0 ∷ offsetsIn kept from to n (i + 1)
+
+-- The lesser of two numbers.
+abbrev pub lesser : ℕ → ℕ → ℕ
+lesser a b = pick (ltb a b) a b
+
+-- The record that bytes stand for, with the offsets of the blocks from one to another; that of no channel where they are too few, or have more than
+-- 2 channels, more than 512 blocks or an unknown format.
+unfoldable pub partIn : List ℕ → (from to : ℕ) → HpsReader
+partIn kept from to =
+    pick (ltb (length kept) openedSize) noReader
+    (pick (ltb 2 (u32At kept 12)) noReader
+    (pick (ltb blockLimit (u32At kept 128)) noReader
+    (on (readChannel kept 16) (λ n. noReader) (λ l.
+    on (readChannel kept 72) (λ n. noReader) (λ r.
+    record { rate = u32At kept 8; count = u32At kept 12; channels = l ∷ r ∷ []; blocks = u32At kept 128; offsets = offsetsIn kept from (lesser to (u32At kept 128)) blockLimit 0; «loop_start» = loopOf (u32At kept 132) })))))
+
+-- The whole record that bytes stand for.
+abbrev pub readerIn : List ℕ → HpsReader
+readerIn kept = partIn kept 0 blockLimit

@@ -42,8 +42,9 @@ module _ {a b : List ℕ} {r q : HpsReader} {left right : Stage} where
     alike-done z h i =
         let l = f .long in
         let n : length (g .lines) ≡ 0 = ap length (sym lines) ∙ l ∙ z in
-        let d : x .stage ≡ Stage.Done = f .done h z in
-        let t : y .stage ≡ Stage.Done = g .done i (sym (g .long) ∙ n) in
+        let d : x .stage ≡ Stage.Done = f .done (omega arith) in
+        let none : y .length ≡ 0 = sym (g .long) ∙ n in
+        let t : y .stage ≡ Stage.Done = g .done (omega arith) in
         alike-next .whole (rw (d, t))
 
 -- Both are refused with the same number.

@@ -50,13 +50,13 @@ apart e f = absurd (let z = f e in omega arith)
 module _ (i : ℕ) (st en le sc : ℕ) (la ol : ℤ) (q : BlockCall) where
   -- the lent numbers: before, with the position moved, with a block given
   abbrev before : BlockLent
-  before = record { position = i; start = st; end = en; length = le; scale = sc; last = la; oldest = ol }
+  before = record { position = i; start = st; end = en; addresses = le; scale = sc; last = la; oldest = ol }
 
   abbrev moved : BlockLent
-  moved = record { position = q .position; start = st; end = en; length = le; scale = sc; last = la; oldest = ol }
+  moved = record { position = q .position; start = st; end = en; addresses = le; scale = sc; last = la; oldest = ol }
 
   abbrev given : (newer older : ℤ) → BlockLent
-  given newer older = record { position = q .position; start = q .start; end = q .end; length = q .length; scale = q .context .«predictor_and_scale»; last = newer; oldest = older }
+  given newer older = record { position = q .position; start = q .start; end = q .end; addresses = q .length; scale = q .context .«predictor_and_scale»; last = newer; oldest = older }
 
   pub block-refused : (n : ℕ) (a : BlockAnswer) → q ≡ blockCall i a → q .reply ≡ BlockReply.Refused n → (n ≡ blockNumber a) × (moved ≡ blockLent before a)
   block-refused n (BlockAnswer.refused m) e f = let k = rw e at f in (cc, rw e)

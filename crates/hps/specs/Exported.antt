@@ -53,7 +53,7 @@ pub record BlockLent : Type 0 where
   pub position : ℕ
   pub start : ℕ
   pub end : ℕ
-  pub length : ℕ
+  pub addresses : ℕ
   pub scale : ℕ
   pub last : ℤ
   pub oldest : ℤ
@@ -62,10 +62,10 @@ pub record BlockLent : Type 0 where
 abbrev pub blockLent : BlockLent → BlockAnswer → BlockLent
 blockLent b (BlockAnswer.refused n) = b
 blockLent b (BlockAnswer.refusedAt n j) =
-    record { position = j; start = b .start; end = b .end; length = b .length; scale = b .scale; last = b .last; oldest = b .oldest }
+    record { position = j; start = b .start; end = b .end; addresses = b .addresses; scale = b .scale; last = b .last; oldest = b .oldest }
 blockLent b BlockAnswer.ended = b
 blockLent b (BlockAnswer.gave rate f cs gain len c start bytes j) =
-    record { position = j; start = start; end = start + length bytes; length = len; scale = c .«predictor_and_scale»; last = c .last; oldest = c .oldest }
+    record { position = j; start = start; end = start + length bytes; addresses = len; scale = c .«predictor_and_scale»; last = c .last; oldest = c .oldest }
 
 -- The number of addresses remaining.
 abbrev pub remainingNumber : Remaining → ℕ

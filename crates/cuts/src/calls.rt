@@ -442,7 +442,7 @@ fn load_in(
 }
 
 // The calls of a well-formed script, on a slot of this length.
-pub fn load(fd: i32, s: &[u8], slot: usize, say: bool, kept: &mut [u8]) -> Loading
+pub(crate) fn load(fd: i32, s: &[u8], slot: usize, say: bool, kept: &mut [u8]) -> Loading
     ensures { λ q. ⌜ Underway q ⌝ }
 {
     let mut data = [0u8; DATA];

@@ -11,7 +11,7 @@ pub struct Noted {
     pub places: [Place; 516],
 }
 
-pub fn none() -> Noted
+pub(crate) fn none() -> Noted
     ensures { λ q. ⌜ Listed q ⌝ }
 {
     let nowhere = Place {
@@ -26,7 +26,7 @@ pub fn none() -> Noted
 }
 
 // One write more. A loading hands out no more writes and bytes than are noted.
-pub fn note(j: Noted, place: Place, bytes: &[u8], kept: &mut [u8]) -> Noted
+pub(crate) fn note(j: Noted, place: Place, bytes: &[u8], kept: &mut [u8]) -> Noted
     requires { ⌜ Listed j ⌝ }
     ensures { λ q. ⌜ Listed q ⌝ }
 {

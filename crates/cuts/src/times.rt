@@ -64,7 +64,7 @@ fn through_write(
 }
 
 // Both buffers hold the earlier slot.
-pub fn print_times(fd: i32, slot: &mut [u8], first: &mut [u8], j: Noted, kept: &[u8])
+pub(crate) fn print_times(fd: i32, slot: &mut [u8], first: &mut [u8], j: Noted, kept: &[u8])
     requires { ⌜ Listed j ⌝ }
 {
     let places = j.places;

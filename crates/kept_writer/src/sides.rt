@@ -78,7 +78,7 @@ fn put_coefficients(buf: &mut [u8], at: usize, coefficients: [i16; 16])
     }
 }
 
-pub fn put_side(buf: &mut [u8], at: usize, side: ChannelBlock)
+pub(crate) fn put_side(buf: &mut [u8], at: usize, side: ChannelBlock)
     requires { ⌜ at < 4096 ⌝ }
 {
     put_u32(buf, at, side.rate);
@@ -137,7 +137,7 @@ fn put_cue(buf: &mut [u8], at: usize, c: Cue)
 }
 
 // The table of n cues from a place on, in a table of zeros.
-pub fn cues_in(s: &[u8], at: usize, n: usize) -> [Cue; 128]
+pub(crate) fn cues_in(s: &[u8], at: usize, n: usize) -> [Cue; 128]
     requires { ⌜ (at < 1000) × (n ≤ 128) ⌝ }
     ensures { λ r. ⌜ length r ≡ 128 ⌝ }
 {
@@ -156,7 +156,7 @@ pub fn cues_in(s: &[u8], at: usize, n: usize) -> [Cue; 128]
     cues
 }
 
-pub fn put_cues(buf: &mut [u8], at: usize, cues: [Cue; 128], n: usize)
+pub(crate) fn put_cues(buf: &mut [u8], at: usize, cues: [Cue; 128], n: usize)
     requires { ⌜ (at < 1000) × (n ≤ 128) ⌝ }
 {
     let mut i: usize = 0;

@@ -24,7 +24,7 @@ fn reply(blocks: u32, length: usize, channels: usize, p: u32) -> EstimateReply {
 }
 
 // 0: the number of the refusal, or 0; 4 blocks, 8 length, 12 channels, 16 p; 20 the estimate, high half first.
-pub fn estimate_case(body: &[u8]) -> usize {
+pub(crate) fn estimate_case(body: &[u8]) -> usize {
     let due = number(body, 0);
     let reply = reply(
         number(body, 4),

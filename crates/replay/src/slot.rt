@@ -241,7 +241,7 @@ fn other_read(s: &[u8], body: &[u8], at: usize) -> usize
 
 // 0 the slot's length, 4 how many bytes of it are here, the others being 0, 8 these bytes; then the length of its listing and the listing; then what is read.
 // Gives 0, 1 if the listing is another, 2 if a channel is, and 3 and the number of the first answer that is.
-pub fn slot_case(body: &[u8]) -> usize {
+pub(crate) fn slot_case(body: &[u8]) -> usize {
     let mut whole = [0u8; LONGEST];
     let n = size(body, 4);
     put_bytes(&mut whole, 0, part(body, 8, n));

@@ -248,7 +248,7 @@ fn lent_buffer() -> [u8; LENT]
 }
 
 // The steps over a slot of zeros, before any begin.
-pub fn loading_case(body: &[u8]) -> usize {
+pub(crate) fn loading_case(body: &[u8]) -> usize {
     let mut slot = empty_slot();
     let mut lent = lent_buffer();
     let none = begin(0, 0, Looping::Auto, &mut lent);

@@ -50,7 +50,7 @@ fn all_digits(word: &[u8]) -> bool {
     true
 }
 
-pub fn is_data(word: &[u8]) -> bool {
+pub(crate) fn is_data(word: &[u8]) -> bool {
     if word.len() == 0 {
         return false;
     }

@@ -50,8 +50,8 @@ pub fn reach_next(slot: &mut [u8], at: usize, bytes: &[u8], k: usize)
     }
 }
 
-// The slot at a moment of the first writes of a list, whose bytes lie one after the other.
-pub fn slot_at(slot: &mut [u8], places: [Place; 516], count: usize, bytes: &[u8], moment: usize)
+// The same of as many writes as are there.
+fn carry_first(slot: &mut [u8], places: [Place; 516], count: usize, bytes: &[u8], moment: usize)
     requires { ⌜ count ≤ 516 ⌝ }
     ensures { λ _. ⌜ now (slot .exit) ≡ slotAt (now (slot .entry)) (writesIn (take count places) (now (bytes .entry))) moment ⌝ }
 {
@@ -71,4 +71,12 @@ pub fn slot_at(slot: &mut [u8], places: [Place; 516], count: usize, bytes: &[u8]
         at = end;
         i += 1;
     }
+}
+
+// The slot at a moment of the first writes of a list, whose bytes lie one after the other.
+pub fn slot_at(slot: &mut [u8], places: [Place; 516], count: usize, bytes: &[u8], moment: usize)
+    ensures { λ _. ⌜ now (slot .exit) ≡ slotAt (now (slot .entry)) (writesIn (take count places) (now (bytes .entry))) moment ⌝ }
+{
+    let most = least(count, MOST_WRITES);
+    carry_first(slot, places, most, bytes, moment);
 }

@@ -1,4 +1,2 @@
-pub mod PushDueLaws
-pub mod TakeLaws
+pub mod DataLaws
 pub mod PushLaws
-pub mod BlockLaws

@@ -1,1 +1,1 @@
-pub mod PushParts
+pub mod PushData

@@ -1,4 +1,3 @@
-// The push call (document 01, "Loading"): a block's refusals, its bytes and what follows for the writer's record.
+// The push call (document 01, "Loading"): a block's bytes and what follows for the writer's record, by its plan.
 
-pub mod block; // block.rt: the bytes of a block
 pub mod push; // push.rt: the push call

@@ -1,213 +1,160 @@
-use Prim.Native.Nat.{ℕ, _+_, _*_, _≤_}
-use mathlib.Core.Path.{_≡_, refl, ap, sym, _∙_}
+use Prim.Native.Nat.{ℕ, _+_, _*_}
+use mathlib.Core.Path.{_≡_, ap, sym, _∙_}
 use native.Mathlib.Omega.{arith}
 use lib.ListN.{length}
 use Rattle.layout.specs.Records.{P}
-use Rattle.layout.specs.Puts.{putAt}
-use Rattle.writer.specs.Loading.{Push, pushRefusal}
-use Rattle.writer.specs.Calls.{takenOf, standingIn}
+use Rattle.writer.specs.Loading.{Push}
 use Rattle.push_due.specs.PushDue.{pushArgs}
-use Rattle.writer.proofs.GoodLaws.{samples-few, push-good}
-use Rattle.block_writer.proofs.PushDueLaws.{Passing, passing, early-refused, early-passed}
-use Rattle.block_writer.proofs.TakeLaws.{taking}
-use Rattle.block_writer.proofs.BlockLaws.{few-points}
-use Rattle.block_writer.proofs.PushLaws.{size-small, block-small, Planned, planned, loop-near, after-is, bytes-are, has-room, push-refused, push-accepted}
+use Rattle.push_plan.specs.declared.Stream.{Stream}
+use Rattle.push_plan.specs.PushPlan.{loopFrom, planOf, advanced, writerOf, streamOf}
+use Rattle.writer.proofs.GoodLaws.{push-good}
+use Rattle.block_writer.proofs.PushLaws.{push-refused, push-accepted, sound, to-within, few-points, are-taken, Worked, due-is, passes, starts, totals, sized, room, after-is, bytes-are}
 use borrow.Author.Needs.{needs}
 use Rattle.block_writer.proofs.push.push.Statement.{statement}
 use Rattle.block_writer.proofs.push.push.Tie as tie
 use Rattle.block_writer.proofs.push.push.Reads as reads
 use Rattle.block_writer.proofs.push.push.Lts as lts
-use Rattle.sizes.proofs.adpcm_samples.Reads as adpcm-samples-reads
-use Rattle.block_writer.proofs.block.put_block.Reads as put-block-reads
-use Rattle.push_due.proofs.early_due.Reads as early-due-reads
-use Rattle.push_due.proofs.room_due.Reads as room-due-reads
-use Rattle.block_writer.proofs.push.advance.Reads as advance-reads
-use Rattle.block_writer.proofs.block.data_start.Reads as data-start-reads
-use Rattle.block_writer.proofs.block.data_size.Reads as data-size-reads
-use Rattle.block_writer.proofs.push.loop_after.Reads as loop-after-reads
-use Rattle.block_writer.proofs.push.next_offset.Reads as next-offset-reads
+use Rattle.block_writer.proofs.push.put_data.Reads as put-data-reads
 use Rattle.block_writer.proofs.push.refused.Reads as refused-reads
-use Rattle.block_writer.proofs.push.take.Reads as take-reads
+use Rattle.block_writer.proofs.push.stream_of.Reads as stream-of-reads
+use Rattle.block_writer.proofs.push.with_stream.Reads as with-stream-reads
+use Rattle.push_plan.proofs.advance.Reads as advance-reads
+use Rattle.push_plan.proofs.block_end.Reads as block-end-reads
+use Rattle.push_plan.proofs.plan_push.Reads as plan-push-reads
+use Rattle.taking.proofs.any_loop.Reads as any-loop-reads
+use Rattle.taking.proofs.put_taken.Reads as put-taken-reads
+use Rattle.taking.proofs.take.Reads as take-reads
+use Rattle.written.proofs.put_header.Reads as put-header-reads
 
 -- ---- What is known at the places of the code
 
-abbrev start : tie.Else1 → tie.Start
-start c = c .before .before .before .before .before .before .before
-
--- none before 24 is due
-early-none : (c : tie.Else1)
-    → Passing (start c .args .w .blocks) (start c .args .channels) (start c .args .left) (length (start c .args .left-data .now)) (length (start c .args .right-data .now))
-early-none c = passing _ _ _ _ _ _ _ _ _ _ _ (c .before .early-due .ensures) (c .if1 .left)
-
-abbrev early : tie.After-data-size → tie.Else1
-early c = c .before .before .before .before
-
-few : (c : tie.After-data-size) → c .before .take .result .points ≤ 128
-few c =
-    let s = start (early c) in
-    few-points (s .args .w) _ _ (s .pre) (taking (s .args .w) (s .pre) _ (s .args .last) _ (c .before .take .ensures))
-
-small : (c : tie.After-data-size) → c .data-size .result ≤ 131072
-small c =
-    let h = early-none (early c) in
-    size-small _ _ _ _ (h .left) (h .right) (c .data-size .ensures)
+abbrev start : tie.After-any-loop → tie.Start
+start c = c .before .before .before .before .before .before .before .before
 
 -- the push, in the words of the definitions
 abbrev pushed : tie.Start → Push
 pushed s = pushArgs (s .args .channels) (s .args .left) (s .args .right) (s .args .left-data .now) (s .args .right-data .now) (s .args .last)
 
-abbrev size : tie.After-data-start → ℕ
-size c = c .data-start .result + c .before .data-size .result
+-- the record without its table
+stream : (c : tie.After-any-loop) → c .before .before .before .before .stream-of .result ≡ streamOf (start c .args .w)
+stream c = c .before .before .before .before .stream-of .ensures
 
-size-is : (c : tie.After-data-start) → size c ≡ 32 + P (8 * c .before .before .take .result .points) + c .before .data-size .result
-size-is c = ap (λ (m : ℕ). m + c .before .data-size .result) (c .data-start .ensures)
-
-plan : (c : tie.After-data-start) → Planned (start (early (c .before)) .args .w) (pushed (start (early (c .before)))) (start (early (c .before)) .args .w .base + c .before .before .before .before .adpcm-samples .result) (c .before .before .take .result) (size c)
-plan c =
-    let s = start (early (c .before)) in
-    planned (s .args .w) (s .pre) (s .args .channels) (s .args .left) (s .args .right) (s .args .left-data .now) (s .args .right-data .now) (s .args .last)
-    _ _ _ _ _ (c .before .before .before .before .adpcm-samples .ensures) refl (c .before .before .take .ensures) (c .before .data-size .ensures) (size-is c)
-
--- the number of the room is the push's
-due-is : (c : tie.After-room-due)
-    → c .room-due .result ≡ pushRefusal (standingIn (start (early (c .before .before)) .args .w)) (takenOf (start (early (c .before .before)) .args .w) (pushed (start (early (c .before .before))))) (pushed (start (early (c .before .before)))) (length (start (early (c .before .before)) .args .lent .now))
-due-is c =
-    let e = early (c .before .before) in
-    let s = start e in
-    early-passed (s .args .w) (s .args .channels) (s .args .left) (s .args .right) (s .args .left-data .now) (s .args .right-data .now) (s .args .last)
-    _ (e .before .early-due .ensures) _ _ (e .if1 .left) _ _ (plan (c .before) .size) (c .room-due .ensures)
-
-room : (c : tie.Else2)
-    → (start (early (c .before .before .before)) .args .w .offset + size (c .before .before) ≤ start (early (c .before .before .before)) .args .w .slot)
-    × (size (c .before .before) ≤ length (start (early (c .before .before .before)) .args .lent .now))
-room c =
-    let s = start (early (c .before .before .before)) in
-    has-room (s .args .w) (pushed s) _ _ (sym (due-is (c .before)) ∙ c .if2 .left) (plan (c .before .before) .size)
+worked : (p : tie.After-plan-push) → let s = start (p .before) in
+    Worked (s .args .w) (s .args .channels) (s .args .left) (s .args .right) (s .args .left-data .now) (s .args .right-data .now) (s .args .last) (s .args .lent .now)
+    (p .before .before .before .block-end .result) (p .before .before .take .result) (p .before .any-loop .result) (p .plan-push .result)
+worked p =
+    let s = start (p .before) in
+    record {
+      good = s .pre;
+      ends = p .before .before .before .block-end .ensures;
+      takes = p .before .before .take .ensures;
+      loops = ap (λ b. loopFrom (streamOf (s .args .w)) b (p .before .before .take .result .asked) (p .before .before .before .block-end .result) (s .args .last)) (p .before .any-loop .ensures);
+      plans =
+          p .plan-push .ensures
+          ∙ ap (λ (m : Stream). planOf m (p .before .before .take .result) (p .before .any-loop .result) (p .before .before .before .block-end .result) (s .args .channels) (s .args .left) (s .args .right) (length (s .args .left-data .now)) (length (s .args .right-data .now)) (s .args .last) (length (s .args .lent .now))) (stream (p .before));
+    }
 
 -- ---- The needs
 
-early-due-requires : tie.Need-early-due-requires
-early-due-requires c κs = search needs
+stream-of-requires : tie.Need-stream-of-requires
+stream-of-requires c κs = search needs
+
+block-end-requires : tie.Need-block-end-requires
+block-end-requires c κs = search needs
+
+take-requires : tie.Need-take-requires
+take-requires c κs = search needs
+
+any-loop-requires : tie.Need-any-loop-requires
+any-loop-requires c κs = search needs
+
+plan-push-requires : tie.Need-plan-push-requires
+plan-push-requires c κs =
+    let s = start c in
+    (rw (stream c) (sound (s .args .w) (s .pre)), few-points (s .args .w) (s .pre) _ _ _ (c .before .take .ensures))
 
 refused-requires : tie.Need-refused-requires
 refused-requires c κs = search needs
 
 returns : tie.Need-returns
 returns c =
-    let e = c .before .before in
-    let s = e .before .before .before .before .before .before in
-    let n = early-refused (s .args .w) (s .args .channels) (s .args .left) (s .args .right) (s .args .left-data .now) (s .args .right-data .now) (s .args .last)
-    _ (e .early-due .ensures) _ (length (s .args .lent .now)) (c .before .if1 .taken) in
-    let q = push-refused (s .args .w) (pushed s) (s .args .lent .now) _ n (c .before .if1 .taken) _ (c .refused .ensures) in
+    let p = c .before .before .before in
+    let s = start (p .before) in
+    let q = push-refused (s .args .w) (pushed s) (s .args .lent .now) _ (due-is (worked p)) (c .before .if1 .taken) _ (c .refused .ensures) in
     (q .0, (q .1, rw (c .refused .ensures) (s .pre)))
 
-adpcm-samples-requires : tie.Need-adpcm-samples-requires
-adpcm-samples-requires c κs = search needs
+put-header-requires : tie.Need-put-header-requires
+put-header-requires c κs = search needs
 
-add-end : tie.Need-add-end
-add-end c =
-    let s = start (c .before .before) in
-    omega (arith, c .before .adpcm-samples .ensures, samples-few (s .args .left .length), early-none (c .before .before) .short, s .pre .base, s .pre .many)
-
-take-requires : tie.Need-take-requires
-take-requires c κs = search needs
-
-data-size-requires : tie.Need-data-size-requires
-data-size-requires c κs = let h = early-none (c .before .before .before) in (h .left, h .right)
-
-data-start-requires : tie.Need-data-start-requires
-data-start-requires c κs = few c
-
-add-size : tie.Need-add-size
-add-size c = omega (arith, block-small _ _ _ (few (c .before)) (small (c .before)) (size-is c))
-
-room-due-requires : tie.Need-room-due-requires
-room-due-requires c κs =
-    let s = start (early (c .before)) in
-    omega (arith, block-small _ _ _ (few (c .before)) (small (c .before)) (size-is c), s .pre .room, s .pre .small)
-
-refused-requires-2 : tie.Need-refused-requires-2
-refused-requires-2 c κs = search needs
-
-returns-2 : tie.Need-returns-2
-returns-2 c =
-    let s = start (early (c .before .before .before .before)) in
-    let q = push-refused (s .args .w) (pushed s) (s .args .lent .now) _ (due-is (c .before .before)) (c .before .if2 .taken) _ (c .refused2 .ensures) in
-    (q .0, (q .1, rw (c .refused2 .ensures) (s .pre)))
-
-loop-after-requires : tie.Need-loop-after-requires
-loop-after-requires c κs = search needs
-
-add-next-offset : tie.Need-add-next-offset
-add-next-offset c =
-    let e = c .before .before in
-    omega (arith, room e .0, start (early (e .before .before .before)) .pre .small)
-
-next-offset-requires : tie.Need-next-offset-requires
-next-offset-requires c κs =
-    let e = c .before .before in
-    let s = start (early (e .before .before .before)) in
-    let near = loop-near (s .args .w) (s .pre) (s .args .channels) (s .args .left) (s .args .right) (s .args .left-data .now) (s .args .right-data .now) (s .args .last)
-    _ _ _ (plan (e .before .before)) _ (c .before .loop-after .ensures) in
-    (omega (arith, room e .0, s .pre .small), λ n q. omega (arith, near n q, s .pre .room, s .pre .small))
-
-put-block-requires : tie.Need-put-block-requires
-put-block-requires c κs =
-    let e = c .before .before .before .before in
-    let d = e .before .before .before in
-    let s = start (early d) in
-    let h = early-none (early d) in (
-      s .pre,
-      (
-        taking (s .args .w) (s .pre) _ (s .args .last) _ (d .before .take .ensures),
-        ((omega (arith, h .long), h .short, small d, d .data-size .ensures), omega (arith, room e .1, size-is (e .before .before))),
-      ),
+put-taken-requires : tie.Need-put-taken-requires
+put-taken-requires c κs =
+    let e = c .before .before .before .before .before .before in
+    let p = e .before .before in
+    let s = start (p .before) in
+    let k = worked p in (
+      (to-within (s .args .w) (s .pre) _ _ _ (k .takes), omega (arith, s .pre .named, s .pre .placed, s .pre .few)),
+      (are-taken (s .args .w) (s .pre) _ _ _ (k .takes), omega (arith, totals k (e .if1 .left), room k (e .if1 .left) .1)),
     )
+
+put-data-requires : tie.Need-put-data-requires
+put-data-requires c κs =
+    let e = c .before .before .before .before .before .before .before .before .before .before in
+    let k = worked (e .before .before) in
+    omega (arith, starts k (e .if1 .left), totals k (e .if1 .left), room k (e .if1 .left) .1)
 
 advance-requires : tie.Need-advance-requires
 advance-requires c κs =
-    let e = c .before .before .before .before .before .before .before in
-    let d = e .before .before .before in
-    let s = start (early d) in
-    let h = early-none (early d) in
-    (s .pre, (h .few, few d, omega (arith, room e .0, s .pre .small), h .short))
+    let e = c .before .before .before .before .before .before .before .before .before .before .before .before .before in
+    let p = e .before .before in
+    let s = start (p .before) in
+    let k = worked p in
+    let h = passes k (e .if1 .left) in
+    let few = few-points (s .args .w) (s .pre) _ _ _ (k .takes) in
+    rw (stream (p .before)) (
+      omega (arith, s .pre .named, s .pre .placed, s .pre .few, few),
+      h .few,
+      few,
+      omega (arith, room k (e .if1 .left) .0, s .pre .small),
+      omega (arith, h .short, s .pre .sums, s .pre .many),
+    )
+
+with-stream-requires : tie.Need-with-stream-requires
+with-stream-requires c κs = search needs
 
 same-length : tie.Need-same-length
 same-length c = search needs
 
-returns-3 : tie.Need-returns-3
-returns-3 c =
-    let e = c .before .before .before .before .before .before .before .before in
-    let s = start (early (e .before .before .before)) in
-    let p = plan (e .before .before) in
-    let a = after-is (s .args .w) (s .pre) (s .args .channels) (s .args .left) (s .args .right) (s .args .left-data .now) (s .args .right-data .now) (s .args .last)
-    _ _ _ p _ (c .before .before .before .before .before .before .before .loop-after .ensures) in
-    let b = bytes-are (s .args .w) (s .pre) (s .args .channels) (s .args .left) (s .args .right) (s .args .left-data .now) (s .args .right-data .now) (s .args .last)
-    _ _ _ p _ (c .before .before .before .before .before .before .before .loop-after .ensures) _ (c .before .before .before .before .before .next-offset .ensures) in
-    let v = c .advance .ensures ∙ a in
-    let q = push-accepted (s .args .w) (pushed s) (s .args .lent .now) _ (due-is (e .before)) (e .if2 .left) _ _ _ v (p .size) (room e .1) (c .before .before .before .put-block .ensures ∙ ap (putAt (s .args .lent .now) 0) b) in
-    (q .0, (q .1, rw v (push-good (s .args .w) (pushed s) _ (s .pre) (sym (due-is (e .before)) ∙ e .if2 .left))))
+returns-2 : tie.Need-returns-2
+returns-2 c =
+    let v = c .before in
+    let e = v .before .before .before .before .before .before .before .before .before .before .before .before .before .before in
+    let p = e .before .before in
+    let s = start (p .before) in
+    let k = worked p in
+    let z = e .if1 .left in
+    let a : c .with-stream .result ≡ _ =
+    c .with-stream .ensures
+    ∙ ap (writerOf (s .args .w .cues)) (v .advance .ensures ∙ ap (λ (m : Stream). advanced m (p .before .before .take .result) (p .before .before .before .block-end .result) (p .plan-push .result .size) (p .plan-push .result .loopat) (s .args .left) (s .args .right) (s .args .last)) (stream (p .before)))
+    ∙ after-is k z in
+    let b = bytes-are k z _ _ _ (v .before .before .before .before .before .before .before .before .before .before .before .put-header .ensures) (v .before .before .before .before .before .before .before .put-taken .ensures) (v .before .before .before .put-data .ensures) in
+    let q = push-accepted (s .args .w) (pushed s) (s .args .lent .now) _ (due-is k) z _ _ _ a (sized k z) (room k z .1) b in
+    (q .0, (q .1, rw a (push-good (s .args .w) (pushed s) _ (s .pre) (sym (due-is k) ∙ z))))
 
 pub push-spec : {M : Type 1} → statement M
 push-spec =
     tie.close
     (tie.spec
-    early-due-requires
+    stream-of-requires
+    block-end-requires
+    take-requires
+    any-loop-requires
+    plan-push-requires
     refused-requires
     returns
-    adpcm-samples-requires
-    add-end
-    take-requires
-    data-size-requires
-    data-start-requires
-    add-size
-    room-due-requires
-    refused-requires-2
-    returns-2
-    loop-after-requires
-    add-next-offset
-    next-offset-requires
-    put-block-requires
+    put-header-requires
+    put-taken-requires
+    put-data-requires
     advance-requires
+    with-stream-requires
     same-length
-    returns-3)
+    returns-2)

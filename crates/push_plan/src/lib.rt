@@ -1,0 +1,278 @@
+// What a push is to do, worked out of numbers alone: the first number due, the block's header and size, and what follows for the stream (document 01, "Loading").
+use layout::BlockHeader;
+use layout::FrameContext;
+use push_due::early_due;
+use push_due::room_due;
+use sizes::adpcm_samples;
+use sizes::align;
+use taking::Taken;
+use writer::ChannelBlock;
+use writer::LoopAt;
+use writer::Looping;
+ghost use mathlib.Core.Path.{_≡_};
+ghost use Prim.Native.Nat.{ℕ, _+_, _*_, _<_, _≤_, _^_};
+ghost use lib.Dec.{eqb};
+ghost use Rattle.layout.specs.Choice.{pick};
+ghost use Rattle.layout.specs.Records.{P};
+ghost use Rattle.writer.specs.Calls.{orAt, atOrNone};
+ghost use Rattle.push_plan.specs.PushPlan.{endFrom, loopsTo, loopFrom, paddedSize, secondContext, advanced, Sound, noPlan, planOf};
+
+const HEADER_SIZE: usize = 32;
+
+const CUE_SIZE: usize = 8;
+
+const LENGTH_LIMIT: usize = 131072;
+
+const END_BLOCK_OFFSET: u32 = 4294967295;
+
+// The stream so far: the writer's record without its table of cues, which most pushes need not look into.
+pub struct Stream {
+    pub slot: usize,
+    pub channels: usize,
+    pub mode: Looping,
+    pub count: usize,
+    pub next: usize,
+    pub id: u32,
+    pub base: u64,
+    pub offset: usize,
+    pub loopat: LoopAt,
+    pub blocks: usize,
+    pub sum: u64,
+    pub left: ChannelBlock,
+    pub right: ChannelBlock,
+    pub last: bool,
+    pub finished: bool,
+}
+
+// The number due, 0 where none is; then the block's header, where its data starts, its size, and the loop block's offset after it.
+pub struct Plan {
+    pub due: u32,
+    pub header: BlockHeader,
+    pub start: usize,
+    pub size: usize,
+    pub loopat: LoopAt,
+}
+
+// The sample that a block of this length ends before; a length that is refused adds nothing.
+pub fn block_end(base: u64, length: usize) -> u64
+    requires { ⌜ base < 2 ^ 32 ⌝ }
+    ensures { λ r. ⌜ r ≡ endFrom base length ⌝ }
+{
+    if length > LENGTH_LIMIT {
+        return base;
+    }
+    base + adpcm_samples(length) as u64
+}
+
+// The sum of padded data.
+fn data_size(channels: usize, left: usize, right: usize) -> usize
+    requires { ⌜ (left ≤ 65536) × (channels ≡ 2 → right ≤ 65536) ⌝ }
+    ensures { λ r. ⌜ r ≡ paddedSize channels left right ⌝ }
+{
+    let size = align(left);
+    if channels == 2 {
+        return size + align(right);
+    }
+    size
+}
+
+// Where the data starts: after the header and the filled cues.
+fn data_start(points: usize) -> usize
+    requires { ⌜ points ≤ 128 ⌝ }
+    ensures { λ r. ⌜ r ≡ 32 + P (8 * points) ⌝ }
+{
+    HEADER_SIZE + align(CUE_SIZE * points)
+}
+
+// A second channel not in use has a context of zeros.
+fn second_context(channels: usize, right: ChannelBlock) -> FrameContext
+    ensures { λ r. ⌜ r ≡ secondContext channels right ⌝ }
+{
+    if channels == 2 {
+        return right.context;
+    }
+    FrameContext {
+        predictor_and_scale: 0,
+        last: 0,
+        oldest: 0,
+    }
+}
+
+// Whether a block that ends before this sample would be the loop block, by whether the table has a Loop and whether the block takes one.
+fn loop_due(mode: Looping, held: bool, asked: bool, end: u64, last: bool) -> bool
+    ensures { λ r. ⌜ r ≡ loopsTo mode held asked end last ⌝ }
+{
+    match mode {
+        Looping::Disabled => false,
+        Looping::Enabled => {
+            if held {
+                return asked;
+            }
+            if last {
+                return true;
+            }
+            end > 0
+        }
+        Looping::Auto => asked,
+    }
+}
+
+// The loop block's offset after a block at this one: the first one stays.
+fn loop_after(loopat: LoopAt, offset: usize, due: bool) -> LoopAt
+    ensures { λ r. ⌜ r ≡ orAt loopat (pick due (LoopAt.At offset) LoopAt.Nowhere) ⌝ }
+{
+    match loopat {
+        LoopAt::At(_) => loopat,
+        LoopAt::Nowhere => {
+            if due {
+                LoopAt::At(offset)
+            } else {
+                LoopAt::Nowhere
+            }
+        }
+    }
+}
+
+// The next offset of a block that ends here.
+fn next_offset(last: bool, loopat: LoopAt, end: usize) -> u32
+    requires { ⌜ end < 2 ^ 32 ⌝ }
+    requires { ⌜ ((n : ℕ) → loopat ≡ LoopAt.At n → n < 2 ^ 32) ⌝ }
+    ensures { λ r. ⌜ r ≡ pick last (atOrNone loopat) end ⌝ }
+{
+    if last {
+        match loopat {
+            LoopAt::Nowhere => END_BLOCK_OFFSET,
+            LoopAt::At(n) => n as u32,
+        }
+    } else {
+        end as u32
+    }
+}
+
+fn no_plan(due: u32) -> Plan
+    ensures { λ p. ⌜ p ≡ noPlan due ⌝ }
+{
+    let context = FrameContext {
+        predictor_and_scale: 0,
+        last: 0,
+        oldest: 0,
+    };
+    Plan {
+        due,
+        header: BlockHeader {
+            size: 0,
+            end_address: 0,
+            next_offset: 0,
+            left: context,
+            right: context,
+            cues: 0,
+        },
+        start: 0,
+        size: 0,
+        loopat: LoopAt::Nowhere,
+    }
+}
+
+// The plan of a push of so many bytes: the block takes these cues, ends before this sample and goes by a lent buffer of this length.
+pub fn plan_push(
+    s: Stream,
+    taken: Taken,
+    held: bool,
+    end: u64,
+    channels: usize,
+    left: ChannelBlock,
+    right: ChannelBlock,
+    left_bytes: usize,
+    right_bytes: usize,
+    last: bool,
+    lent: usize,
+) -> Plan
+    requires { ⌜ Sound s × (taken .points ≤ 128) ⌝ }
+    ensures { λ p. ⌜ p ≡ planOf s taken held end channels left right «left_bytes» «right_bytes» last lent ⌝ }
+{
+    let first = s.left;
+    let second = s.right;
+    let early = early_due(
+        s.last,
+        s.channels,
+        s.blocks,
+        first,
+        second,
+        channels,
+        left,
+        right,
+        left_bytes,
+        right_bytes,
+    );
+    if early != 0 {
+        return no_plan(early);
+    }
+    let data = data_size(channels, left_bytes, right_bytes);
+    let start = data_start(taken.points);
+    let size = start + data;
+    let room = room_due(s.slot, s.offset, size, lent);
+    if room != 0 {
+        return no_plan(room);
+    }
+    let mode = s.mode;
+    let former = s.loopat;
+    let due = loop_due(mode, held, taken.asked, end, last);
+    let loopat = loop_after(former, s.offset, due);
+    let next = next_offset(last, loopat, s.offset + size);
+    let context = left.context;
+    let other = second_context(channels, right);
+    Plan {
+        due: 0,
+        header: BlockHeader {
+            size: data as u32,
+            end_address: (left.length - 1) as u32,
+            next_offset: next,
+            left: context,
+            right: other,
+            cues: taken.points,
+        },
+        start,
+        size,
+        loopat,
+    }
+}
+
+// The first block's side.
+fn first_side(blocks: usize, kept: ChannelBlock, side: ChannelBlock) -> ChannelBlock
+    ensures { λ r. ⌜ r ≡ pick (eqb blocks 0) side kept ⌝ }
+{
+    if blocks == 0 { side } else { kept }
+}
+
+// The stream after a block of this size that takes these cues, ends before this sample and leaves this loop block.
+pub fn advance(
+    s: Stream,
+    taken: Taken,
+    end: u64,
+    size: usize,
+    loopat: LoopAt,
+    left: ChannelBlock,
+    right: ChannelBlock,
+    last: bool,
+) -> Stream
+    requires { ⌜ (s .id + taken .points < 2 ^ 32) × (s .blocks < 512) × (taken .points ≤ 128) × (s .offset + size < 2 ^ 64) × (s .sum + left .length < 2 ^ 64) ⌝ }
+    ensures { λ r. ⌜ r ≡ advanced s taken end size loopat left right last ⌝ }
+{
+    let first = s.left;
+    let second = s.right;
+    let l = first_side(s.blocks, first, left);
+    let r = first_side(s.blocks, second, right);
+    Stream {
+        next: taken.to,
+        id: s.id + taken.points as u32,
+        base: end,
+        offset: s.offset + size,
+        loopat,
+        blocks: s.blocks + 1,
+        sum: s.sum + left.length as u64,
+        left: l,
+        right: r,
+        last,
+        ..s
+    }
+}

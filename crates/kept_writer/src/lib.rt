@@ -1,4 +1,3 @@
 // The writer's record in lent bytes, as a program in C or Rust keeps it.
 
 pub mod loader; // loader.rt: the writer's record in bytes
-pub mod sides; // sides.rt: a side of a push and a cue in bytes

@@ -1,23 +1,30 @@
 // The writer's record in bytes.
-use crate::sides::cues_in;
-use crate::sides::put_cues;
-use crate::sides::put_side;
-use crate::sides::side_in;
 use kept_reader::fields::long;
-use kept_reader::fields::put_long;
 use kept_reader::fields::word;
-use puts::put_u32;
+use kept_sides::cues_in;
+use kept_sides::side_in;
+use layout::FrameContext;
+use push_plan::Stream;
+use taking::Taken;
+use taking::any_loop;
+use taking::put_taken;
+use taking::take;
 use writer::ChannelBlock;
-use writer::Cue;
 use writer::HpsWriter;
 use writer::LoopAt;
 use writer::Looping;
-use writer::begin;
 ghost use mathlib.Core.Path.{_≡_};
-ghost use mathlib.Core.Bool.{true};
-ghost use Prim.Native.Nat.{ℕ, _+_, _*_, _<_, _≤_};
-ghost use Rattle.writer.specs.declared.LoopAt.{LoopAt};
-ghost use Rattle.writer.specs.Calls.{Good};
+ghost use Prim.Native.Nat.{_+_, _*_, _<_, _≤_, _^_};
+ghost use lib.ListN.{length};
+ghost use lib.Seq.{slice};
+ghost use Rattle.layout.specs.Records.{P};
+ghost use Rattle.layout.specs.Puts.{putAt};
+ghost use Rattle.writer.specs.Loading.{anyLoop};
+ghost use Rattle.writer.specs.Calls.{blank};
+ghost use Rattle.push_plan.specs.PushPlan.{streamOf};
+ghost use Rattle.kept_writer.specs.KeptWriter.{modeOf, loopOf, fieldsIn, placesGood, sumsGood, marksGood, loopsWithin, sensible, streamIn, writerIn, takenIn, heldIn};
+ghost use Rattle.taking.specs.Taking.{filledBytes, Taking};
+ghost use Rattle.kept_sides.specs.KeptSides.{tableIn};
 
 pub const LOADER_SIZE: usize = 3256;
 
@@ -56,17 +63,10 @@ const CUES_AT: usize = 184;
 // No block of the stream is the loop block.
 const NOWHERE: u64 = 0xFFFF_FFFF_FFFF_FFFF;
 
-// The record of a refused begin, of a slot of no bytes: it stands for bytes that hold no record.
-fn no_writer() -> HpsWriter
-    ensures { λ w. ⌜ Good w ⌝ }
-{
-    let mut lent = [0u8; 1];
-    let none = begin(0, 0, Looping::Auto, &mut lent);
-    none.writer
-}
-
 // 0 Disabled, 1 Enabled, any other number Auto.
-pub fn mode_of(number: u32) -> Looping {
+pub fn mode_of(number: u32) -> Looping
+    ensures { λ m. ⌜ m ≡ modeOf number ⌝ }
+{
     match number {
         0 => Looping::Disabled,
         1 => Looping::Enabled,
@@ -74,15 +74,9 @@ pub fn mode_of(number: u32) -> Looping {
     }
 }
 
-fn mode_number(mode: Looping) -> u32 {
-    match mode {
-        Looping::Disabled => 0,
-        Looping::Enabled => 1,
-        Looping::Auto => 2,
-    }
-}
-
-fn loop_of(number: u64) -> LoopAt {
+fn loop_of(number: u64) -> LoopAt
+    ensures { λ l. ⌜ l ≡ loopOf number ⌝ }
+{
     if number == NOWHERE {
         LoopAt::Nowhere
     } else {
@@ -90,35 +84,19 @@ fn loop_of(number: u64) -> LoopAt {
     }
 }
 
-fn loop_number(at: LoopAt) -> u64 {
-    match at {
-        LoopAt::Nowhere => NOWHERE,
-        LoopAt::At(n) => n as u64,
-    }
-}
-
-fn flag(b: bool) -> u32 {
-    if b { 1 } else { 0 }
-}
-
 // Whether the loop block's offset is not beyond this one.
 fn loops_within(at: LoopAt, offset: usize) -> bool
-    ensures { λ b. ⌜ (b ≡ true → (n : ℕ) → at ≡ LoopAt.At n → n ≤ offset) ⌝ }
+    ensures { λ b. ⌜ b ≡ loopsWithin at offset ⌝ }
 {
     match at {
         LoopAt::Nowhere => true,
-        LoopAt::At(n) => {
-            if n > offset {
-                return false;
-            }
-            true
-        }
+        LoopAt::At(n) => n <= offset,
     }
 }
 
 // Whether the places in slot and table are within their limits.
 fn places_good(slot: usize, offset: usize, count: usize, next: usize, id: u32) -> bool
-    ensures { λ b. ⌜ (b ≡ true → (slot ≤ 16777216) × (offset ≤ slot) × (count ≤ 128) × (next ≤ count) × (id ≤ 1 + next)) ⌝ }
+    ensures { λ b. ⌜ b ≡ placesGood slot offset count next id ⌝ }
 {
     if slot > 16777216 {
         return false;
@@ -132,15 +110,12 @@ fn places_good(slot: usize, offset: usize, count: usize, next: usize, id: u32) -
     if next > count {
         return false;
     }
-    if id as usize > next + 1 {
-        return false;
-    }
-    true
+    id as usize <= next + 1
 }
 
 // Whether the sums can be those of so many blocks.
 fn sums_good(blocks: usize, base: u64, sum: u64) -> bool
-    ensures { λ b. ⌜ (b ≡ true → (blocks ≤ 512) × (base ≤ 131072 * blocks) × (sum ≤ 131072 * blocks) × (2 * blocks ≤ sum)) ⌝ }
+    ensures { λ b. ⌜ b ≡ sumsGood blocks base sum ⌝ }
 {
     if blocks > 512 {
         return false;
@@ -152,133 +127,192 @@ fn sums_good(blocks: usize, base: u64, sum: u64) -> bool
     if sum > most {
         return false;
     }
-    if 2 * blocks as u64 > sum {
-        return false;
-    }
-    true
+    2 * blocks as u64 <= sum
 }
 
 // Whether the marks can be those of so many blocks.
 fn marks_good(blocks: usize, last: bool, finished: bool) -> bool
-    ensures { λ b. ⌜ (b ≡ true → (last ≡ true → 0 < blocks) × (finished ≡ true → last ≡ true)) ⌝ }
+    ensures { λ b. ⌜ b ≡ marksGood blocks last finished ⌝ }
 {
     if last {
         return blocks > 0;
     }
-    if finished {
+    !finished
+}
+
+// Whether the numbers can be those of a record that a loading call gives.
+fn is_sensible(s: Stream) -> bool
+    ensures { λ b. ⌜ b ≡ sensible s ⌝ }
+{
+    if !places_good(s.slot, s.offset, s.count, s.next, s.id) {
         return false;
     }
-    true
+    if !sums_good(s.blocks, s.base, s.sum) {
+        return false;
+    }
+    if !marks_good(s.blocks, s.last, s.finished) {
+        return false;
+    }
+    let loopat = s.loopat;
+    loops_within(loopat, s.offset)
 }
 
-// The record that lent bytes hold, that of a refused begin where they hold none. Whatever they are, it meets the premise of the loading calls.
-pub fn writer_in(kept: &[u8]) -> HpsWriter
-    ensures { λ w. ⌜ Good w ⌝ }
+// The numbers of the record as they stand there.
+fn fields_in(kept: &[u8]) -> Stream
+    ensures { λ s. ⌜ s ≡ fieldsIn (now (kept .entry)) ⌝ }
 {
-    if kept.len() < LOADER_SIZE {
-        return no_writer();
-    }
-    let slot = long(kept, SLOT_AT) as usize;
-    let offset = long(kept, OFFSET_AT) as usize;
-    let count = long(kept, COUNT_AT) as usize;
-    let next = long(kept, NEXT_AT) as usize;
-    let id = word(kept, ID_AT);
-    if !places_good(slot, offset, count, next, id) {
-        return no_writer();
-    }
-    let blocks = long(kept, BLOCKS_AT) as usize;
-    let base = long(kept, BASE_AT);
-    let sum = long(kept, SUM_AT);
-    if !sums_good(blocks, base, sum) {
-        return no_writer();
-    }
-    let last = word(kept, LAST_AT) != 0;
-    let finished = word(kept, FINISHED_AT) != 0;
-    if !marks_good(blocks, last, finished) {
-        return no_writer();
-    }
-    let loopat = loop_of(long(kept, LOOP_AT));
-    if !loops_within(loopat, offset) {
-        return no_writer();
-    }
     let mode = mode_of(word(kept, MODE_AT));
-    let cues = cues_in(kept, CUES_AT, count);
+    let loopat = loop_of(long(kept, LOOP_AT));
     let left = side_in(kept, LEFT_AT);
     let right = side_in(kept, RIGHT_AT);
-    HpsWriter {
-        slot,
+    Stream {
+        slot: long(kept, SLOT_AT) as usize,
         channels: long(kept, CHANNELS_AT) as usize,
         mode,
-        cues,
-        count,
-        next,
-        id,
-        base,
-        offset,
+        count: long(kept, COUNT_AT) as usize,
+        next: long(kept, NEXT_AT) as usize,
+        id: word(kept, ID_AT),
+        base: long(kept, BASE_AT),
+        offset: long(kept, OFFSET_AT) as usize,
         loopat,
-        blocks,
-        sum,
+        blocks: long(kept, BLOCKS_AT) as usize,
+        sum: long(kept, SUM_AT),
         left,
         right,
-        last,
-        finished,
+        last: word(kept, LAST_AT) != 0,
+        finished: word(kept, FINISHED_AT) != 0,
     }
 }
 
-fn put_begun(kept: &mut [u8], slot: usize, channels: usize, mode: Looping) {
-    put_long(kept, SLOT_AT, slot as u64);
-    put_long(kept, CHANNELS_AT, channels as u64);
-    put_u32(kept, MODE_AT, mode_number(mode));
+// The record of a refused begin, of a slot of no bytes: it stands for bytes that hold no record.
+fn no_stream() -> Stream
+    ensures { λ s. ⌜ s ≡ streamOf blank ⌝ }
+{
+    let side = ChannelBlock {
+        rate: 0,
+        length: 0,
+        coefficients: [0i16; 16],
+        gain: 0,
+        context: FrameContext {
+            predictor_and_scale: 0,
+            last: 0,
+            oldest: 0,
+        },
+    };
+    Stream {
+        slot: 0,
+        channels: 0,
+        mode: Looping::Disabled,
+        count: 0,
+        next: 0,
+        id: 0,
+        base: 0,
+        offset: 0,
+        loopat: LoopAt::Nowhere,
+        blocks: 0,
+        sum: 0,
+        left: side,
+        right: side,
+        last: false,
+        finished: false,
+    }
 }
 
-// The numbers that a push moves on.
-pub fn put_sums(kept: &mut [u8], base: u64, offset: usize, blocks: usize, sum: u64) {
-    put_long(kept, BASE_AT, base);
-    put_long(kept, OFFSET_AT, offset as u64);
-    put_long(kept, BLOCKS_AT, blocks as u64);
-    put_long(kept, SUM_AT, sum);
+// The record that lent bytes hold, without its table.
+pub fn stream_in(kept: &[u8]) -> Stream
+    ensures { λ s. ⌜ s ≡ streamIn (now (kept .entry)) ⌝ }
+{
+    if kept.len() < LOADER_SIZE {
+        return no_stream();
+    }
+    let s = fields_in(kept);
+    if is_sensible(s) { s } else { no_stream() }
 }
 
-pub fn put_taken(kept: &mut [u8], next: usize, id: u32) {
-    put_long(kept, NEXT_AT, next as u64);
-    put_u32(kept, ID_AT, id);
+// The whole record. Whatever the bytes are, it meets the premise of the loading calls.
+pub fn writer_in(kept: &[u8]) -> HpsWriter
+    ensures { λ w. ⌜ w ≡ writerIn (now (kept .entry)) ⌝ }
+{
+    let s = stream_in(kept);
+    let mode = s.mode;
+    let loopat = s.loopat;
+    let left = s.left;
+    let right = s.right;
+    let cues = cues_in(kept, CUES_AT, s.count);
+    HpsWriter {
+        slot: s.slot,
+        channels: s.channels,
+        mode,
+        cues,
+        count: s.count,
+        next: s.next,
+        id: s.id,
+        base: s.base,
+        offset: s.offset,
+        loopat,
+        blocks: s.blocks,
+        sum: s.sum,
+        left,
+        right,
+        last: s.last,
+        finished: s.finished,
+    }
 }
 
-pub fn put_marks(kept: &mut [u8], loopat: LoopAt, last: bool, finished: bool) {
-    put_long(kept, LOOP_AT, loop_number(loopat));
-    put_u32(kept, LAST_AT, flag(last));
-    put_u32(kept, FINISHED_AT, flag(finished));
+// The cues that a block takes of the table: where none is left the table is not looked into.
+pub fn take_kept(kept: &[u8], from: usize, count: usize, end: u64, last: bool) -> Taken
+    requires { ⌜ (from ≤ count) × (count ≤ 128) ⌝ }
+    ensures { λ r. ⌜ r ≡ takenIn (now (kept .entry)) from count end last ⌝ }
+{
+    if from == count {
+        return Taken {
+            to: from,
+            points: 0,
+            asked: false,
+        };
+    }
+    let cues = cues_in(kept, CUES_AT, count);
+    take(cues, from, count, end, last)
 }
 
-// The first block's sides: after a later block they stand there already.
-pub fn put_sides(kept: &mut [u8], blocks: usize, left: ChannelBlock, right: ChannelBlock) {
-    if blocks > 1 {
+// Whether the table has a Loop, as far as that counts: under Enabled, before there is a loop block.
+pub fn held_kept(kept: &[u8], mode: Looping, loopat: LoopAt, count: usize) -> bool
+    requires { ⌜ count ≤ 128 ⌝ }
+    ensures { λ b. ⌜ b ≡ heldIn mode loopat (anyLoop (slice 0 count (tableIn (now (kept .entry)) 184 count))) ⌝ }
+{
+    match loopat {
+        LoopAt::At(_) => false,
+        LoopAt::Nowhere => match mode {
+            Looping::Disabled => false,
+            Looping::Auto => false,
+            Looping::Enabled => {
+                let cues = cues_in(kept, CUES_AT, count);
+                any_loop(cues, count)
+            }
+        },
+    }
+}
+
+// The bytes of the cues that a block takes of the table, which is not looked into where there are none.
+pub fn put_taken_kept(
+    buf: &mut [u8],
+    at: usize,
+    kept: &[u8],
+    count: usize,
+    from: usize,
+    to: usize,
+    base: u64,
+    id: u32,
+    points: usize,
+)
+    requires { ⌜ (count ≤ 128) × (to ≤ 128) × (id + 128 < 2 ^ 32) ⌝ }
+    requires { ⌜ Taking (tableIn (now kept) 184 count) from to points ⌝ }
+    requires { ⌜ at + P (8 * points) ≤ length (now buf) ⌝ }
+    ensures { λ _. ⌜ now (buf .exit) ≡ putAt (now (buf .entry)) at (filledBytes base id (slice from to (tableIn (now (kept .entry)) 184 count))) ⌝ }
+{
+    if points == 0 {
         return;
     }
-    put_side(kept, LEFT_AT, left);
-    put_side(kept, RIGHT_AT, right);
-}
-
-// The record before the first push.
-pub fn put_writer(kept: &mut [u8], w: HpsWriter)
-    requires { ⌜ Good w ⌝ }
-{
-    let mode = w.mode;
-    let loopat = w.loopat;
-    let left = w.left;
-    let right = w.right;
-    let cues = w.cues;
-    put_begun(kept, w.slot, w.channels, mode);
-    put_taken(kept, w.next, w.id);
-    put_sums(kept, w.base, w.offset, w.blocks, w.sum);
-    put_marks(kept, loopat, w.last, w.finished);
-    put_sides(kept, w.blocks, left, right);
-    put_table(kept, cues, w.count);
-}
-
-fn put_table(kept: &mut [u8], cues: [Cue; 128], count: usize)
-    requires { ⌜ count ≤ 128 ⌝ }
-{
-    put_long(kept, COUNT_AT, count as u64);
-    put_cues(kept, CUES_AT, cues, count);
+    let cues = cues_in(kept, CUES_AT, count);
+    put_taken(buf, at, cues, from, to, base, id, points);
 }

@@ -1,5 +1,4 @@
-use native.Mathlib.Omega.{arith}
-use mathlib.Core.Bool.{false≢true}
+use Rattle.kept_writer.proofs.KeptLaws.{slot-large, offset-past, count-large, next-past, places-rest}
 use borrow.Author.Needs.{needs}
 use Rattle.kept_writer.proofs.loader.places_good.Statement.{statement}
 use Rattle.kept_writer.proofs.loader.places_good.Tie as tie
@@ -7,26 +6,22 @@ use Rattle.kept_writer.proofs.loader.places_good.Reads as reads
 use Rattle.kept_writer.proofs.loader.places_good.Lts as lts
 
 returns : tie.Need-returns
-returns c = λ e. absurd (false≢true e)
+returns c = search (slot-large, needs)
 
 returns-2 : tie.Need-returns-2
-returns-2 c = λ e. absurd (false≢true e)
+returns-2 c = search (offset-past, needs)
 
 returns-3 : tie.Need-returns-3
-returns-3 c = λ e. absurd (false≢true e)
+returns-3 c = search (count-large, needs)
 
 returns-4 : tie.Need-returns-4
-returns-4 c = λ e. absurd (false≢true e)
+returns-4 c = search (next-past, needs)
 
-add-if5 : tie.Need-add-if5
-add-if5 c = search needs
+add-result : tie.Need-add-result
+add-result c = search needs
 
 returns-5 : tie.Need-returns-5
-returns-5 c = λ e. absurd (false≢true e)
-
-returns-6 : tie.Need-returns-6
-returns-6 c = search needs
+returns-5 c = search (places-rest, needs)
 
 pub places-good-spec : {M : Type 1} → statement M
-places-good-spec =
-    tie.close (tie.spec returns returns-2 returns-3 returns-4 add-if5 returns-5 returns-6)
+places-good-spec = tie.close (tie.spec returns returns-2 returns-3 returns-4 add-result returns-5)

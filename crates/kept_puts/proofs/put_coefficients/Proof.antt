@@ -3,10 +3,10 @@ use mathlib.Core.Path.{_≡_}
 use native.Mathlib.Omega.{arith}
 use lib.ListN.{length}
 use borrow.Author.Needs.{needs}
-use Rattle.kept_writer.proofs.sides.put_coefficients.Statement.{statement}
-use Rattle.kept_writer.proofs.sides.put_coefficients.Tie as tie
-use Rattle.kept_writer.proofs.sides.put_coefficients.Reads as reads
-use Rattle.kept_writer.proofs.sides.put_coefficients.Lts as lts
+use Rattle.kept_puts.proofs.put_coefficients.Statement.{statement}
+use Rattle.kept_puts.proofs.put_coefficients.Tie as tie
+use Rattle.kept_puts.proofs.put_coefficients.Reads as reads
+use Rattle.kept_puts.proofs.put_coefficients.Lts as lts
 use Rattle.puts.proofs.put_i16.Reads as put-i16-reads
 
 abbrev Inv-loop : tie.InvT-loop

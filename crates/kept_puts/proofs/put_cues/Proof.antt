@@ -3,11 +3,11 @@ use mathlib.Core.Path.{_≡_}
 use native.Mathlib.Omega.{arith}
 use lib.ListN.{length}
 use borrow.Author.Needs.{needs}
-use Rattle.kept_writer.proofs.sides.put_cues.Statement.{statement}
-use Rattle.kept_writer.proofs.sides.put_cues.Tie as tie
-use Rattle.kept_writer.proofs.sides.put_cues.Reads as reads
-use Rattle.kept_writer.proofs.sides.put_cues.Lts as lts
-use Rattle.kept_writer.proofs.sides.put_cue.Reads as put-cue-reads
+use Rattle.kept_puts.proofs.put_cues.Statement.{statement}
+use Rattle.kept_puts.proofs.put_cues.Tie as tie
+use Rattle.kept_puts.proofs.put_cues.Reads as reads
+use Rattle.kept_puts.proofs.put_cues.Lts as lts
+use Rattle.kept_puts.proofs.put_cue.Reads as put-cue-reads
 
 abbrev Inv-loop : tie.InvT-loop
 Inv-loop buf₀ at n cues i₀ buf i = (length buf ≡ length buf₀) × (i ≤ n)

@@ -1,22 +1,23 @@
-use Prim.Native.Nat.{_-_, _≤_}
-use mathlib.Core.Path.{_≡_}
+use Prim.Native.Nat.{_-_}
+use mathlib.Core.Path.{_∙_}
 use native.Mathlib.Omega.{arith}
-use lib.ListN.{length}
+use mir.Facts.{toZ-ofZ}
+use Rattle.kept_sides.proofs.ReadingLaws.{Signed, signed-start, signed-again, signed-end}
 use borrow.Author.Needs.{needs}
-use Rattle.kept_writer.proofs.sides.coefficients_in.Statement.{statement}
-use Rattle.kept_writer.proofs.sides.coefficients_in.Tie as tie
-use Rattle.kept_writer.proofs.sides.coefficients_in.Reads as reads
-use Rattle.kept_writer.proofs.sides.coefficients_in.Lts as lts
-use Rattle.kept_writer.proofs.sides.signed.Reads as signed-reads
+use Rattle.kept_sides.proofs.coefficients_in.Statement.{statement}
+use Rattle.kept_sides.proofs.coefficients_in.Tie as tie
+use Rattle.kept_sides.proofs.coefficients_in.Reads as reads
+use Rattle.kept_sides.proofs.coefficients_in.Lts as lts
+use Rattle.kept_sides.proofs.signed.Reads as signed-reads
 
 abbrev Inv-loop : tie.InvT-loop
-Inv-loop s at coefficients₀ i₀ coefficients i = (length coefficients ≡ 16) × (i ≤ 16)
+Inv-loop s at coefficients₀ i₀ coefficients i = Signed s at coefficients i
 
 abbrev μ-loop : tie.MeasureT-loop
 μ-loop s at coefficients₀ i₀ coefficients i = 16 - i
 
 loop-holds : tie.Need-loop-holds Inv-loop μ-loop
-loop-holds c = search needs
+loop-holds c = signed-start _ _
 
 mul-signed : tie.Need-mul-signed Inv-loop μ-loop
 mul-signed c = search needs
@@ -40,10 +41,10 @@ loop-less : tie.Need-loop-less Inv-loop μ-loop
 loop-less c = search needs
 
 loop-again : tie.Need-loop-again Inv-loop μ-loop
-loop-again c = search needs
+loop-again c = signed-again _ _ _ _ _ (c .before .before .loop .inv) (c .before .loop-test .taken) (toZ-ofZ (record { sfits = c .signed .ok }) ∙ c .signed .ensures)
 
 returns : tie.Need-returns Inv-loop μ-loop
-returns c = search needs
+returns c = signed-end _ _ _ _ (c .before .loop .inv) (c .loop-test .left)
 
 pub coefficients-in-spec : {M : Type 1} → statement M
 coefficients-in-spec =

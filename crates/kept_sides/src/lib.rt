@@ -1,37 +1,33 @@
 // What a push says of a channel, and a cue of the table, in bytes.
 use kept_reader::fields::long;
-use kept_reader::fields::put_long;
 use kept_reader::fields::word;
 use layout::FrameContext;
 use layout::fields::I16Read;
 use layout::fields::U16Read;
 use layout::fields::read_i16;
 use layout::fields::read_u16;
-use puts::put_context;
-use puts::put_i16;
-use puts::put_u16;
-use puts::put_u32;
 use writer::ChannelBlock;
 use writer::Cue;
 use writer::CueKind;
 ghost use mathlib.Core.Path.{_≡_};
 ghost use Prim.Native.Nat.{_<_, _≤_};
-ghost use lib.ListN.{length};
-
-// A side: rate, length, 16 coefficients, gain, context.
-pub const SIDE_SIZE: usize = 48;
+ghost use Rattle.kept_sides.specs.KeptSides.{halfAt, signedAt, signedFrom, sideIn, kindOf, cueIn, tableIn};
 
 // A cue: start, range length, kind, name.
-pub const CUE_SIZE: usize = 24;
+const CUE_SIZE: usize = 24;
 
-fn half(s: &[u8], at: usize) -> u16 {
+fn half(s: &[u8], at: usize) -> u16
+    ensures { λ n. ⌜ n ≡ halfAt (now (s .entry)) at ⌝ }
+{
     let U16Read::Value(n) = read_u16(s, at) else {
         return 0;
     };
     n
 }
 
-fn signed(s: &[u8], at: usize) -> i16 {
+fn signed(s: &[u8], at: usize) -> i16
+    ensures { λ n. ⌜ n ≡ signedAt (now (s .entry)) at ⌝ }
+{
     let I16Read::Value(n) = read_i16(s, at) else {
         return 0;
     };
@@ -40,6 +36,7 @@ fn signed(s: &[u8], at: usize) -> i16 {
 
 fn coefficients_in(s: &[u8], at: usize) -> [i16; 16]
     requires { ⌜ at < 65536 ⌝ }
+    ensures { λ r. ⌜ r ≡ signedFrom (now (s .entry)) at 16 ⌝ }
 {
     let mut coefficients = [0i16; 16];
     let mut i: usize = 0;
@@ -52,6 +49,7 @@ fn coefficients_in(s: &[u8], at: usize) -> [i16; 16]
 
 pub fn side_in(s: &[u8], at: usize) -> ChannelBlock
     requires { ⌜ at < 4096 ⌝ }
+    ensures { λ b. ⌜ b ≡ sideIn (now (s .entry)) at ⌝ }
 {
     let coefficients = coefficients_in(s, at + 8);
     let context = FrameContext {
@@ -68,30 +66,10 @@ pub fn side_in(s: &[u8], at: usize) -> ChannelBlock
     }
 }
 
-fn put_coefficients(buf: &mut [u8], at: usize, coefficients: [i16; 16])
-    requires { ⌜ at < 65536 ⌝ }
-{
-    let mut i: usize = 0;
-    while i < 16 {
-        put_i16(buf, at + 2 * i, coefficients[i]);
-        i += 1;
-    }
-}
-
-pub(crate) fn put_side(buf: &mut [u8], at: usize, side: ChannelBlock)
-    requires { ⌜ at < 4096 ⌝ }
-{
-    put_u32(buf, at, side.rate);
-    put_u32(buf, at + 4, (side.length % 4294967296) as u32);
-    let coefficients = side.coefficients;
-    put_coefficients(buf, at + 8, coefficients);
-    put_u16(buf, at + 40, side.gain);
-    let context = side.context;
-    put_context(buf, at + 42, context);
-}
-
 // 0 a point, 1 a loop, any other number a range.
-pub fn kind_of(number: u32, range: u64) -> CueKind {
+pub fn kind_of(number: u32, range: u64) -> CueKind
+    ensures { λ k. ⌜ k ≡ kindOf number range ⌝ }
+{
     match number {
         0 => CueKind::Point,
         1 => CueKind::Loop,
@@ -99,24 +77,9 @@ pub fn kind_of(number: u32, range: u64) -> CueKind {
     }
 }
 
-fn kind_number(kind: CueKind) -> u32 {
-    match kind {
-        CueKind::Point => 0,
-        CueKind::Loop => 1,
-        CueKind::Range(_) => 2,
-    }
-}
-
-fn range_of(kind: CueKind) -> u64 {
-    match kind {
-        CueKind::Point => 0,
-        CueKind::Loop => 0,
-        CueKind::Range(n) => n,
-    }
-}
-
 fn cue_in(s: &[u8], at: usize) -> Cue
     requires { ⌜ at < 4096 ⌝ }
+    ensures { λ c. ⌜ c ≡ cueIn (now (s .entry)) at ⌝ }
 {
     let kind = kind_of(word(s, at + 16), long(s, at + 8));
     Cue {
@@ -126,20 +89,10 @@ fn cue_in(s: &[u8], at: usize) -> Cue
     }
 }
 
-fn put_cue(buf: &mut [u8], at: usize, c: Cue)
-    requires { ⌜ at < 4096 ⌝ }
-{
-    let kind = c.kind;
-    put_long(buf, at, c.start);
-    put_long(buf, at + 8, range_of(kind));
-    put_u32(buf, at + 16, kind_number(kind));
-    put_u32(buf, at + 20, c.name);
-}
-
 // The table of n cues from a place on, in a table of zeros.
-pub(crate) fn cues_in(s: &[u8], at: usize, n: usize) -> [Cue; 128]
+pub fn cues_in(s: &[u8], at: usize, n: usize) -> [Cue; 128]
     requires { ⌜ (at < 1000) × (n ≤ 128) ⌝ }
-    ensures { λ r. ⌜ length r ≡ 128 ⌝ }
+    ensures { λ r. ⌜ r ≡ tableIn (now (s .entry)) at n ⌝ }
 {
     let none = Cue {
         start: 0,
@@ -154,15 +107,4 @@ pub(crate) fn cues_in(s: &[u8], at: usize, n: usize) -> [Cue; 128]
         i += 1;
     }
     cues
-}
-
-pub(crate) fn put_cues(buf: &mut [u8], at: usize, cues: [Cue; 128], n: usize)
-    requires { ⌜ (at < 1000) × (n ≤ 128) ⌝ }
-{
-    let mut i: usize = 0;
-    while i < n {
-        let cue = cues[i];
-        put_cue(buf, at + CUE_SIZE * i, cue);
-        i += 1;
-    }
 }

@@ -1,22 +1,21 @@
 use Prim.Native.Nat.{_-_, _≤_}
-use mathlib.Core.Path.{_≡_}
 use native.Mathlib.Omega.{arith}
-use lib.ListN.{length}
+use Rattle.kept_sides.proofs.ReadingLaws.{Cues, cues-start, cues-again, cues-end}
 use borrow.Author.Needs.{needs}
-use Rattle.kept_writer.proofs.sides.cues_in.Statement.{statement}
-use Rattle.kept_writer.proofs.sides.cues_in.Tie as tie
-use Rattle.kept_writer.proofs.sides.cues_in.Reads as reads
-use Rattle.kept_writer.proofs.sides.cues_in.Lts as lts
-use Rattle.kept_writer.proofs.sides.cue_in.Reads as cue-in-reads
+use Rattle.kept_sides.proofs.cues_in.Statement.{statement}
+use Rattle.kept_sides.proofs.cues_in.Tie as tie
+use Rattle.kept_sides.proofs.cues_in.Reads as reads
+use Rattle.kept_sides.proofs.cues_in.Lts as lts
+use Rattle.kept_sides.proofs.cue_in.Reads as cue-in-reads
 
 abbrev Inv-loop : tie.InvT-loop
-Inv-loop s at n cues₀ i₀ cues i = (length cues ≡ 128) × (i ≤ n)
+Inv-loop s at n cues₀ i₀ cues i = Cues s at cues i × (i ≤ n)
 
 abbrev μ-loop : tie.MeasureT-loop
 μ-loop s at n cues₀ i₀ cues i = n - i
 
 loop-holds : tie.Need-loop-holds Inv-loop μ-loop
-loop-holds c = search needs
+loop-holds c = (cues-start _ _, omega arith)
 
 mul-cue-in : tie.Need-mul-cue-in Inv-loop μ-loop
 mul-cue-in c = search needs
@@ -40,10 +39,10 @@ loop-less : tie.Need-loop-less Inv-loop μ-loop
 loop-less c = search needs
 
 loop-again : tie.Need-loop-again Inv-loop μ-loop
-loop-again c = search needs
+loop-again c = (cues-again _ _ _ _ _ (c .before .before .loop .inv .0) (omega arith) (c .cue-in .ensures), omega arith)
 
 returns : tie.Need-returns Inv-loop μ-loop
-returns c = search needs
+returns c = cues-end _ _ _ _ _ (c .before .loop .inv .0) (omega arith)
 
 pub cues-in-spec : {M : Type 1} → statement M
 cues-in-spec =

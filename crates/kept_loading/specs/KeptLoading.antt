@@ -1,0 +1,31 @@
+-- What the loading calls on a record in lent bytes give.
+use Prim.Native.Nat.{ℕ, _<_}
+use mathlib.Core.Path.{_≡_}
+use mathlib.Core.List.{List}
+use lib.Dec.{eqb}
+use Rattle.layout.specs.Choice.{pick}
+use Rattle.writer.specs.Loading.{Answer, accepted, refused}
+use Rattle.writer.specs.Calls.{Outcome, firstPlace}
+use Rattle.kept_writer.specs.KeptWriter.{streamIn}
+use Rattle.kept_loading.specs.declared.KeptCall.{KeptCall}
+
+-- The refusal's number, 0 where the call is accepted.
+abbrev pub numberOf : Answer → ℕ
+numberOf (refused n) = n
+numberOf (accepted m) = 0
+
+-- The call's number, and the place of the write that it hands out.
+abbrev pub callOf : Outcome → KeptCall
+callOf o = record { number = numberOf (o .answer); offset = firstPlace (o .places) .offset; length = firstPlace (o .places) .length }
+
+-- A call on the record that bytes hold: 254 where they hold none.
+abbrev pub onKept : List ℕ → Outcome → KeptCall
+onKept kept o = pick (eqb (streamIn kept .slot) 0) (record { number = 254; offset = 0; length = 0 }) (callOf o)
+
+-- The lent buffer after it.
+abbrev pub lentAfter : (kept lent : List ℕ) → Outcome → List ℕ
+lentAfter kept lent o = pick (eqb (streamIn kept .slot) 0) lent (o .lent)
+
+-- A call that gives a number other than 0 leaves what it was lent as it was.
+abbrev pub Leaves : {A : Type 0} → (number : ℕ) → (before after : A) → Type 0
+Leaves n before after = 0 < n → after ≡ before

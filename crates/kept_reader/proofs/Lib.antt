@@ -1,3 +1,4 @@
 pub mod KeptPuts
 pub mod KeptReads
+pub mod LongLaws
 pub mod PartLaws

@@ -1,10 +1,11 @@
 -- The opening record in lent bytes: the bytes that are put for it, and the record that bytes stand for.
-use Prim.Native.Nat.{ℕ, zero, suc, _+_, _*_, _%_}
+use Prim.Native.Nat.{ℕ, zero, suc, _+_, _*_, _/_, _%_}
 use mathlib.Core.List.{List, [], _∷_, _++_}
 use lib.ListN.{length, take, replicate}
 use lib.Dec.{ltb, leb, eqb}
 use Rattle.layout.specs.Choice.{pick, _and_}
 use Rattle.layout.specs.Lists.{concat}
+use Rattle.layout.specs.Puts.{putAt}
 use Rattle.layout.specs.Records.{u32At, be32, on, readChannel}
 use Rattle.layout.specs.Refusals.{blockLimit}
 use Rattle.reader.specs.declared.LoopStart.{LoopStart}
@@ -15,6 +16,18 @@ use Rattle.reader.specs.ReaderAnswers.{noReader}
 -- A u32 at an offset, 0 where it is not wholly there.
 unfoldable pub wordAt : List ℕ → ℕ → ℕ
 wordAt s at = pick (leb (at + 4) (length s)) (u32At s at) 0
+
+-- A u64 at an offset, high half first.
+unfoldable pub longAt : List ℕ → ℕ → ℕ
+longAt s at = wordAt s at * 4294967296 + wordAt s (at + 4)
+
+-- The bytes of a u64.
+unfoldable pub be64 : ℕ → List ℕ
+be64 x = be32 (x / 4294967296) ++ be32 (x % 4294967296)
+
+-- A u64 put by its halves, each where it fits.
+unfoldable pub putLong : List ℕ → (at x : ℕ) → List ℕ
+putLong s at x = putAt (putAt s at (be32 (x / 4294967296))) (at + 4) (be32 (x % 4294967296))
 
 -- The bytes of a record.
 abbrev pub openedSize : ℕ

@@ -1,0 +1,30 @@
+-- A u64 put by its halves.
+use Prim.Native.Nat.{ℕ, _+_, _/_, _%_, _≤_}
+use mathlib.Core.Path.{_≡_, refl, ap, _∙_}
+use mathlib.Core.List.{List, _++_}
+use native.Mathlib.Omega.{arith}
+use lib.ListN.{length, length-append}
+use Rattle.layout.specs.Puts.{putAt}
+use Rattle.layout.specs.Records.{be32}
+use Rattle.layout.proofs.Lengths.{be32-length}
+use Rattle.puts.proofs.PutLaws.{Put, put-then, putAt-length}
+use Rattle.kept_reader.specs.KeptReader.{be64, putLong}
+
+pub be64-length : (x : ℕ) → length (be64 x) ≡ 8
+unfolding be64 be32
+be64-length x = refl
+
+pub halves-put : (a : List ℕ) (at x : ℕ) {b c : List ℕ} → b ≡ putAt a at (be32 (x / 4294967296)) → c ≡ putAt b (at + 4) (be32 (x % 4294967296)) → c ≡ putLong a at x
+unfolding putLong
+halves-put a at x e f = f ∙ ap (λ (b : List ℕ). putAt b (at + 4) (be32 (x % 4294967296))) e
+
+-- where there is room they are its bytes
+pub long-put : (a : List ℕ) (at x : ℕ) → at + 8 ≤ length a → putLong a at x ≡ putAt a at (be64 x)
+unfolding putLong be64
+long-put a at x h =
+    let p : Put a at 4 (be32 (x / 4294967296)) (putAt a at (be32 (x / 4294967296))) = record { size = be32-length _; is = refl } in
+    put-then p (be32 (x % 4294967296)) (be32-length _) refl refl (omega arith) .is
+
+pub putLong-length : (a : List ℕ) (at x : ℕ) → length (putLong a at x) ≡ length a
+unfolding putLong
+putLong-length a at x = putAt-length _ _ _ ∙ putAt-length a at _

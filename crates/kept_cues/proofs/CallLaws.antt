@@ -6,8 +6,6 @@ use native.Mathlib.Omega.{arith}
 use lib.ListN.{length}
 use borrow.Author.Tests.{lt-ltb, le-ltb, eq-eqb, ne-eqb}
 use Rattle.layout.specs.Puts.{putAt}
-use Rattle.layout.specs.Records.{noChannel}
-use Rattle.layout.specs.declared.Channel.{Channel}
 use Rattle.layout.specs.declared.DspFormat.{DspFormat}
 use Rattle.reader.specs.declared.HpsReader.{HpsReader}
 use Rattle.reader.specs.declared.CueIterator.{CueIterator}

@@ -1,8 +1,8 @@
 -- A cursor and a cue in bytes: read, and put number by number.
 use Prim.Native.Nat.{ℕ, _+_, _≤_}
-use mathlib.Core.Path.{_≡_, refl, sym, ap, _∙_}
+use mathlib.Core.Path.{_≡_, refl, ap, _∙_}
 use mathlib.Core.Bool.{Bool, true, false, _&&_}
-use mathlib.Core.List.{List, _++_}
+use mathlib.Core.List.{List}
 use native.Mathlib.Omega.{arith}
 use lib.ListN.{length}
 use lib.Dec.{eqb}
@@ -10,7 +10,7 @@ use Rattle.layout.specs.Choice.{pick, _and_}
 use Rattle.layout.specs.Puts.{putAt}
 use Rattle.layout.specs.Records.{be32}
 use Rattle.layout.proofs.Lengths.{be32-length}
-use Rattle.puts.proofs.PutLaws.{Put, put-then, putAt-length}
+use Rattle.puts.proofs.PutLaws.{Put, put-then}
 use Rattle.reader.specs.declared.HpsReader.{HpsReader}
 use Rattle.reader.specs.declared.CueIterator.{CueIterator}
 use Rattle.reader.specs.CuesReadBack.{cursor, firstCursor}

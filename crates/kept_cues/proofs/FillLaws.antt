@@ -1,7 +1,7 @@
 -- As many cue calls as there is room for: the loop's invariant, and what each way out of it gives.
 use Prim.Native.Nat.{ℕ, suc, _+_, _*_, _-_, _/_, _≤_, _<_}
 use mathlib.Core.Path.{_≡_, refl, sym, ap, _∙_}
-use mathlib.Core.Bool.{Bool, true, false}
+use mathlib.Core.Bool.{Bool}
 use mathlib.Core.List.{List, [], _∷_, _++_, append-assoc, append-nil}
 use native.Mathlib.Omega.{arith}
 use native.Mathlib.Nat.{add-assoc, add-zero}
@@ -10,7 +10,6 @@ use lib.Dec.{ltb}
 use Rattle.layout.specs.Choice.{_and_}
 use Rattle.layout.specs.Puts.{putAt}
 use Rattle.layout.specs.Records.{cueAt, lengthIn}
-use Rattle.layout.specs.declared.BlockHeader.{BlockHeader}
 use Rattle.layout.proofs.Cases.{by-cases}
 use Rattle.puts.proofs.PutLaws.{Put, put-then, putAt-none}
 use Rattle.layout.specs.declared.DspFormat.{DspFormat}
@@ -20,7 +19,6 @@ use Rattle.reader.specs.declared.CueIterator.{CueIterator}
 use Rattle.reader.specs.OpeningAndReading.{offsetsFrom}
 use Rattle.reader.specs.CuesReadBack.{CueAnswer, loopHere, pointOf, baseAfter, cueFrom, cueStep}
 use Rattle.reader.proofs.HeaderLaws.{header-cases}
-use Rattle.cue_reader.specs.declared.CueReply.{CueReply}
 use Rattle.cue_reader.specs.declared.CueCall.{CueCall}
 use Rattle.cue_reader.specs.CueAnswers.{cueReply, cueCall, PartsOf}
 use Rattle.kept_cues.specs.KeptCues.{cueBytes, replyNumber, replyPut, CuesGiven, noCue, ahead, oneCue, cuesFrom, filledOf, givenOf}

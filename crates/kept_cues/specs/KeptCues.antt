@@ -1,6 +1,5 @@
 -- Cue calls one after the other on a kept record: the cursor in bytes, the bytes of a cue, and what as many calls as there is room for give.
 use Prim.Native.Nat.{ℕ, zero, suc, _+_, _/_}
-use mathlib.Core.Bool.{Bool}
 use mathlib.Core.List.{List, [], _++_}
 use lib.ListN.{length}
 use lib.Dec.{ltb, eqb}

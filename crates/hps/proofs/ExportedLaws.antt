@@ -1,17 +1,13 @@
 -- The exported calls' answers, from what the calls below them return.
 use Prim.Native.Nat.{ℕ, _+_, _≤_, _<_}
 use mathlib.Core.Path.{_≡_, refl, sym, ap, _∙_}
-use mathlib.Core.List.{List, [], _∷_, _++_, append-nil}
+use mathlib.Core.List.{List, [], _∷_, _++_}
 use native.Mathlib.Omega.{arith}
 use lib.ListN.{length, take, length-append}
 use lib.Seq.{take-at}
-use lib.Dec.{leb, eqb}
-use borrow.Author.Tests.{lt-ltb, le-ltb, le-leb, leb-true, leb-false, eq-eqb, ne-eqb}
-use Rattle.layout.specs.Records.{u16At, field, on, Read, formatOf, channelAt, readChannel}
-use Rattle.layout.specs.declared.Channel.{Channel}
-use Rattle.layout.specs.declared.DspFormat.{DspFormat}
+use lib.Dec.{eqb}
+use borrow.Author.Tests.{lt-ltb, le-ltb, le-leb, eq-eqb, ne-eqb}
 use Rattle.layout.proofs.Cases.{by-cases}
-use Rattle.layout.proofs.FieldLaws.{field-inside, field-past}
 use Rattle.layout.specs.Puts.{putAt}
 use Rattle.writer.specs.Loading.{Answer, accepted, refused, Push, beginRefusal, beginWrites, pushRefusal, finishRefusal, headerWrites}
 use Rattle.writer.specs.Calls.{outcome, replyOf, called, finished, beginOf, pushOf, finishOf, blank, emptyOf, standingIn, takenOf, afterPush, pushBytes, afterFinish, headerOf}
@@ -23,8 +19,7 @@ use Rattle.writer.specs.declared.Called.{Called}
 use Rattle.writer.specs.declared.Finished.{Finished}
 use Rattle.estimate.specs.EstimateAnswers.{estimateReply}
 use Rattle.estimate.specs.declared.EstimateReply.{EstimateReply}
-use Rattle.reader.specs.OpeningAndReading.{Opened, opening, blockRead, Remaining}
-use Rattle.reader.proofs.OpenedLaws.{opened-parts}
+use Rattle.reader.specs.OpeningAndReading.{Opened, blockRead, Remaining}
 use Rattle.kept_reader.specs.KeptReader.{openedBytes}
 use Rattle.reader.specs.declared.HpsReader.{HpsReader}
 use Rattle.listing.specs.MarkingKey.{listing, listingFrom}
@@ -83,31 +78,6 @@ module _ (kept s : List ℕ) (o : Opened) where
 
   pub open-kept : {after : List ℕ} (r : HpsReader) → o ≡ Opened.opened r → 2184 ≤ length kept → after ≡ putAt kept 0 (openedBytes s r) → after ≡ keptAfter kept s o
   open-kept r e h f = rw (e, le-ltb (length kept) 2184 h) f
-
--- a slot that opens has a whole header
-channel-inside : (s : List ℕ) (c : Channel) → readChannel s 72 ≡ Read.value c → 128 ≤ length s
-unfolding readChannel
-channel-inside s c e =
-    by-cases (leb 128 (length s)) (λ t. leb-true 128 (length s) t)
-    (λ t.
-    let h = leb-false 128 (length s) t in
-    absurd (by-cases (leb 76 (length s))
-    (λ u.
-    let k = rw (field-inside s 76 (u16At s 74) (leb-true 76 (length s) u)) at e in
-    formats (formatOf (u16At s 74)) (λ f. field-past s 128 (channelAt s 72 f) h) k)
-    (λ u.
-    let k = rw (field-past s 76 (u16At s 74) (leb-false 76 (length s) u)) at e in
-    apart-read 1 c k)))
-  where
-    apart-read : (n : ℕ) (c : Channel) → Read.refused n ≡ Read.value c → ⊥
-    apart-read n c e = let z : _≡_ {A = ℕ} 0 1 = cc in omega arith
-
-    formats : (q : Read DspFormat) → ((f : DspFormat) → field s 128 (channelAt s 72 f) ≡ Read.refused 1) → on q Read.refused (λ f. field s 128 (channelAt s 72 f)) ≡ Read.value c → ⊥
-    formats (Read.refused n) g e = apart-read n c e
-    formats (Read.value f) g e = apart-read 1 c (sym (g f) ∙ e)
-
-pub opened-long : (s : List ℕ) (r : HpsReader) → opening s ≡ Opened.opened r → 128 ≤ length s
-opened-long s r e = channel-inside s _ (opened-parts s r e .right-read)
 
 -- ---- A block read
 

@@ -1,9 +1,8 @@
 -- The calls on a kept record, from what the calls on the part of it that they read return.
-use Prim.Native.Nat.{ℕ, _<_, _≤_}
+use Prim.Native.Nat.{ℕ, _<_}
 use mathlib.Core.Path.{_≡_, refl, sym, ap, _∙_}
 use mathlib.Core.List.{List}
 use native.Mathlib.Omega.{arith}
-use lib.ListN.{length}
 use lib.IntN.{ℤ}
 use borrow.Author.Tests.{ne-eqb}
 use Rattle.reader.specs.OpeningAndReading.{BlockAnswer, blockRead, Remaining, dataRemaining}
@@ -13,7 +12,6 @@ use Rattle.block_reader.specs.declared.blocks.BlockReply.{BlockReply}
 use Rattle.block_reader.specs.declared.blocks.BlockCall.{BlockCall}
 use Rattle.block_reader.specs.declared.blocks.RemainingReply.{RemainingReply}
 use Rattle.kept_reader.specs.KeptReader.{partIn, readerIn}
-use Rattle.kept_reader.proofs.KeptReads.{part-shape}
 use Rattle.kept_reader.proofs.PartLaws.{block-same, remaining-same, same-count}
 use Rattle.hps.specs.Exported.{onRecord, blockNumber, BlockLent, blockLent, remainingNumber, addressesAfter}
 use Rattle.hps.proofs.ExportedLaws.{no-record, a-record, no-block, no-sum}
@@ -29,9 +27,6 @@ module _ (kept : List ℕ) (from to : ℕ) (r : HpsReader) (e : r ≡ partIn kep
 
   pub with-it : {m : ℕ} (n : ℕ) → (r .count ≡ 0 → ⊥) → m ≡ n → m ≡ onRecord (readerIn kept) n
   with-it n h f = f ∙ a-record (readerIn kept) n (λ k. h (count-is ∙ k))
-
-  pub table-long : r .blocks ≤ length (r .offsets)
-  table-long = let s = part-shape kept from to in rw e (omega (arith, s .offsets, s .readable .blocks))
 
 -- ---- Block read
 

@@ -4,8 +4,8 @@ pub mod loading; // loading.rt: the loading calls and the estimate
 pub mod reading; // reading.rt: the reading calls and the listing
 
 // A reading call has come to the end.
-pub const END: u32 = 255;
+pub const END: u32 = kept_reader::END;
 // The lent bytes are no record.
-pub const NO_RECORD: u32 = 254;
+pub const NO_RECORD: u32 = kept_reader::NO_RECORD;
 // A looping mode or a kind of cue that there is not.
 pub const NO_KIND: u32 = 253;

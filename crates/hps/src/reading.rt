@@ -5,41 +5,22 @@ use block_reader::blocks::BlockReply;
 use block_reader::blocks::RemainingReply;
 use block_reader::blocks::data_remaining;
 use block_reader::blocks::read_block;
-use cue_reader::CueReply;
-use cue_reader::cue_from;
-use cue_reader::first_cursor;
-use kept_reader::fields::long;
-use kept_reader::fields::put_long;
-use kept_reader::fields::word;
+use kept_cues::cue_calls;
 use kept_reader::opened::OPENED_SIZE;
 use kept_reader::opened::put_opened;
 use kept_reader::opened::reader_in;
-use layout::DspFormat;
 use listing::listing::fill;
 use listing::listing::start_listing;
-use puts::put_u32;
 use reader::BLOCK_LIMIT;
-use reader::CueIterator;
-use reader::HpsReader;
-use reader::LoopStart;
 use reader::opening::OpenReply;
 use reader::opening::open;
 ghost use mathlib.Core.Path.{_≡_};
-ghost use Prim.Native.Nat.{_+_, _<_, _≤_, _^_};
+ghost use Prim.Native.Nat.{_<_};
 ghost use lib.ListN.{length};
 ghost use Rattle.reader.specs.OpeningAndReading.{opening, blockRead, dataRemaining};
 ghost use Rattle.kept_reader.specs.KeptReader.{readerIn};
+ghost use Rattle.kept_cues.specs.KeptCues.{CuesLent, cuesNumber, cuesLent};
 ghost use Rattle.hps.specs.Exported.{openNumber, keptAfter, onRecord, blockNumber, BlockLent, blockLent, remainingNumber, addressesAfter, Listed};
-
-const CURSOR_SIZE: usize = 32;
-
-const CUE_SIZE: usize = 16;
-
-struct CuesFilled {
-    number: u32,
-    cues: usize,
-    cursor: CueIterator,
-}
 
 // Opens a slot, and keeps the record in the lent bytes.
 #[no_mangle]
@@ -143,119 +124,6 @@ pub extern "C" fn hps_remaining(
     }
 }
 
-// Which cue a cursor's bytes stand before. All zeros stand before the first.
-fn cursor_in(cursor: &[u8], r: HpsReader) -> CueIterator {
-    let first = first_cursor(r);
-    CueIterator {
-        block: long(cursor, 0) as usize,
-        place: long(cursor, 8) as usize,
-        base: long(cursor, 16),
-        due: first.due & (word(cursor, 24) == 0),
-    }
-}
-
-fn put_cursor(cursor: &mut [u8], c: CueIterator) {
-    put_long(cursor, 0, c.block as u64);
-    put_long(cursor, 8, c.place as u64);
-    put_long(cursor, 16, c.base);
-    if c.due {
-        put_u32(cursor, 24, 0);
-    } else {
-        put_u32(cursor, 24, 1);
-    }
-}
-
-// A cue in 16 bytes: its start, 0 for a point or 1 for the loop, and its name.
-fn put_cue(out: &mut [u8], at: usize, start: u64, kind: u32, name: u32)
-    requires { ⌜ at + 16 < 2 ^ 64 ⌝ }
-{
-    put_long(out, at, start);
-    put_u32(out, at + 8, kind);
-    put_u32(out, at + 12, name);
-}
-
-// The bytes of a cue that a call gave; 0, or the number or end that it gave.
-fn put_reply(reply: CueReply, out: &mut [u8], at: usize) -> u32
-    requires { ⌜ at + 16 < 2 ^ 64 ⌝ }
-{
-    match reply {
-        CueReply::Refused(number) => number,
-        CueReply::End => END,
-        CueReply::Loop(start) => {
-            put_cue(out, at, start, 1, 0);
-            0
-        }
-        CueReply::Point(start, name) => {
-            put_cue(out, at, start, 0, name);
-            0
-        }
-    }
-}
-
-fn filled(
-    number: u32,
-    cues: usize,
-    block: usize,
-    place: usize,
-    base: u64,
-    due: bool,
-) -> CuesFilled {
-    let cursor = CueIterator {
-        block,
-        place,
-        base,
-        due,
-    };
-    CuesFilled {
-        number,
-        cues,
-        cursor,
-    }
-}
-
-// As many cues as fit.
-fn fill_cues(
-    s: &[u8],
-    offsets: &[u32],
-    blocks: usize,
-    start: LoopStart,
-    format: DspFormat,
-    from: CueIterator,
-    out: &mut [u8],
-) -> CuesFilled
-    requires { ⌜ blocks ≤ length (now offsets) ⌝ }
-{
-    // The cursor by its numbers: a cursor as a whole would be copied some times for each cue.
-    let mut block = from.block;
-    let mut place = from.place;
-    let mut base = from.base;
-    let mut due = from.due;
-    let mut cues: usize = 0;
-    let mut at: usize = 0;
-    while CUE_SIZE <= out.len() - at {
-        let c = CueIterator {
-            block,
-            place,
-            base,
-            due,
-        };
-        let call = cue_from(s, offsets, blocks, start, format, c);
-        let reply = call.reply;
-        let after = call.cursor;
-        block = after.block;
-        place = after.place;
-        base = after.base;
-        due = after.due;
-        let number = put_reply(reply, out, at);
-        if number != 0 {
-            return filled(number, cues, block, place, base, due);
-        }
-        at += CUE_SIZE;
-        cues += 1;
-    }
-    filled(0, cues, block, place, base, due)
-}
-
 // Cue calls from a cursor on, until out is full, the cues end or one is refused; how many cues were given, and the cursor after them.
 #[no_mangle]
 pub extern "C" fn hps_cues(
@@ -264,24 +132,12 @@ pub extern "C" fn hps_cues(
     cursor: &mut [u8],
     out: &mut [u8],
     cues: &mut usize,
-) -> u32 {
-    if cursor.len() < CURSOR_SIZE {
-        return 14;
-    }
-    let r = reader_in(kept, 0, BLOCK_LIMIT);
-    if r.count == 0 {
-        return NO_RECORD;
-    }
-    let c = cursor_in(cursor, r);
-    let start = r.loop_start;
-    let left = r.channels[0];
-    let format = left.format;
-    let offsets = r.offsets;
-    let filled = fill_cues(slot, &offsets, r.blocks, start, format, c, out);
-    let after = filled.cursor;
-    put_cursor(cursor, after);
-    *cues = filled.cues;
-    filled.number
+) -> u32
+    ensures { λ n. ⌜ n ≡ cuesNumber (now (slot .entry)) (now (kept .entry)) (record { cursor = now (cursor .entry); out = now (out .entry); cues = now (cues .entry) }) ⌝ }
+    ensures { λ _. ⌜ _≡_ {A = CuesLent} (record { cursor = now (cursor .exit); out = now (out .exit); cues = now (cues .exit) })
+        (cuesLent (now (slot .entry)) (now (kept .entry)) (record { cursor = now (cursor .entry); out = now (out .entry); cues = now (cues .entry) })) ⌝ }
+{
+    cue_calls(slot, kept, cursor, out, cues)
 }
 
 // The listing from its start: as many whole lines as fit into out. It is whole if 60 bytes more would have fitted.

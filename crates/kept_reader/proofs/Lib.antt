@@ -2,3 +2,4 @@ pub mod KeptPuts
 pub mod KeptReads
 pub mod LongLaws
 pub mod PartLaws
+pub mod ReadBackLaws

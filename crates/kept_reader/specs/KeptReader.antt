@@ -1,5 +1,6 @@
 -- The opening record in lent bytes: the bytes that are put for it, and the record that bytes stand for.
-use Prim.Native.Nat.{ℕ, zero, suc, _+_, _*_, _/_, _%_}
+use Prim.Native.Nat.{ℕ, zero, suc, _+_, _*_, _/_, _%_, _≤_}
+use mathlib.Core.Path.{_≡_}
 use mathlib.Core.List.{List, [], _∷_, _++_}
 use lib.ListN.{length, take, replicate}
 use lib.Dec.{ltb, leb, eqb}
@@ -8,6 +9,8 @@ use Rattle.layout.specs.Lists.{concat}
 use Rattle.layout.specs.Puts.{putAt}
 use Rattle.layout.specs.Records.{u32At, be32, on, readChannel}
 use Rattle.layout.specs.Refusals.{blockLimit}
+use Rattle.layout.specs.Types.{Bytes}
+use Rattle.reader.specs.OpeningAndReading.{Opened, opening}
 use Rattle.reader.specs.declared.LoopStart.{LoopStart}
 use Rattle.reader.specs.declared.LoopStart.the-variants.{None, Block}
 use Rattle.reader.specs.declared.HpsReader.{HpsReader}
@@ -78,3 +81,7 @@ partIn kept from to =
 -- The whole record that bytes stand for.
 abbrev pub readerIn : List ℕ → HpsReader
 readerIn kept = partIn kept 0 blockLimit
+
+-- What is kept of an opening is its record: for a slot of bytes that opens, and bytes with room, those that are put stand for the opening's record.
+abbrev pub ReadBack : Type 0
+ReadBack = (s kept : List ℕ) (r : HpsReader) → Bytes s → opening s ≡ Opened.opened r → openedSize ≤ length kept → readerIn (putAt kept 0 (openedBytes s r)) ≡ r

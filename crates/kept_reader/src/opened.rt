@@ -16,7 +16,7 @@ ghost use Rattle.layout.specs.Records.{be32};
 ghost use Rattle.layout.specs.Puts.{putAt};
 ghost use Rattle.reader.specs.OpeningAndReading.{Readable};
 ghost use Rattle.reader.specs.ReaderAnswers.{noReader};
-ghost use Rattle.kept_reader.specs.KeptReader.{loopNumber, loopOf, fileKept, openedBytes, offsetsIn, lesser, partIn};
+ghost use Rattle.kept_reader.specs.KeptReader.{loopNumber, loopOf, fileKept, openedBytes, offsetsIn, lesser, partIn, ReadBack};
 
 pub const OPENED_SIZE: usize = 2184;
 
@@ -168,3 +168,8 @@ pub fn reader_in(kept: &[u8], from: usize, to: usize) -> HpsReader
         loop_start,
     }
 }
+
+// What put_opened puts for an opening's record, reader_in reads back.
+pub fn read_back()
+    ensures { λ _. ⌜ ReadBack ⌝ }
+{}

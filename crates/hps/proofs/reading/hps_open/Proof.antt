@@ -1,6 +1,7 @@
 use denote.Ref.{now}
 use borrow.Author.Needs.{needs}
-use Rattle.hps.proofs.ExportedLaws.{no-room, no-room-kept, open-refused, open-left, open-opened, open-kept, opened-long}
+use Rattle.hps.proofs.ExportedLaws.{no-room, no-room-kept, open-refused, open-left, open-opened, open-kept}
+use Rattle.kept_reader.proofs.ReadBackLaws.{opened-long}
 use Rattle.listing.proofs.StartLaws.{call-refused, call-opened}
 use Rattle.hps.proofs.reading.hps_open.Statement.{statement}
 use Rattle.hps.proofs.reading.hps_open.Tie as tie

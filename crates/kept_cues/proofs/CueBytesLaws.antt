@@ -1,0 +1,88 @@
+-- A cursor and a cue in bytes: read, and put number by number.
+use Prim.Native.Nat.{ℕ, _+_, _≤_}
+use mathlib.Core.Path.{_≡_, refl, ap, _∙_}
+use mathlib.Core.Bool.{Bool, true, false, _&&_}
+use mathlib.Core.List.{List}
+use native.Mathlib.Omega.{arith}
+use lib.ListN.{length}
+use lib.Dec.{eqb}
+use Rattle.layout.specs.Choice.{pick, _and_}
+use Rattle.layout.specs.Puts.{putAt}
+use Rattle.layout.specs.Records.{be32}
+use Rattle.layout.proofs.Lengths.{be32-length}
+use Rattle.puts.proofs.PutLaws.{Put, put-then}
+use Rattle.reader.specs.declared.HpsReader.{HpsReader}
+use Rattle.reader.specs.declared.CueIterator.{CueIterator}
+use Rattle.reader.specs.CuesReadBack.{cursor, firstCursor}
+use Rattle.kept_reader.specs.KeptReader.{wordAt, longAt, be64, putLong}
+use Rattle.kept_reader.proofs.LongLaws.{be64-length, putLong-length, long-put}
+use Rattle.cue_reader.specs.declared.CueReply.{CueReply}
+use Rattle.kept_cues.specs.KeptCues.{cursorIn, cursorBytes, putCursor, cueBytes, putCue, replyNumber, replyPut}
+
+-- ---- The cursor
+
+both : (a b : Bool) → a && b ≡ a and b
+both true b = refl
+both false b = refl
+
+pub cursor-read : (r : HpsReader) (bs : List ℕ) {block place base word : ℕ} {first : CueIterator} → first ≡ firstCursor r → block ≡ longAt bs 0 → place ≡ longAt bs 8 → base ≡ longAt bs 16
+    → word ≡ wordAt bs 24 → cursor block place base (first .due && eqb word 0) ≡ cursorIn r bs
+unfolding cursorIn
+cursor-read r bs f e1 e2 e3 e4 = rw (f, e1, e2, e3, e4, both)
+
+module _ (l : List ℕ) (c : CueIterator) where
+  longs-put : {l1 l2 l3 : List ℕ} → l1 ≡ putLong l 0 (c .block) → l2 ≡ putLong l1 8 (c .place) → l3 ≡ putLong l2 16 (c .base)
+      → l3 ≡ putLong (putLong (putLong l 0 (c .block)) 8 (c .place)) 16 (c .base)
+  longs-put e1 e2 e3 = e3 ∙ ap (λ (b : List ℕ). putLong b 16 (c .base)) (e2 ∙ ap (λ (b : List ℕ). putLong b 8 (c .place)) e1)
+
+  pub due-put : {l1 l2 l3 l4 : List ℕ} → l1 ≡ putLong l 0 (c .block) → l2 ≡ putLong l1 8 (c .place) → l3 ≡ putLong l2 16 (c .base) → c .due ≡ true → l4 ≡ putAt l3 24 (be32 0)
+      → l4 ≡ putCursor l c
+  unfolding putCursor
+  due-put e1 e2 e3 d e4 = rw d (e4 ∙ ap (λ (b : List ℕ). putAt b 24 (be32 0)) (longs-put e1 e2 e3))
+
+  pub passed-put : {l1 l2 l3 l4 : List ℕ} → l1 ≡ putLong l 0 (c .block) → l2 ≡ putLong l1 8 (c .place) → l3 ≡ putLong l2 16 (c .base) → c .due ≡ false → l4 ≡ putAt l3 24 (be32 1)
+      → l4 ≡ putCursor l c
+  unfolding putCursor
+  passed-put e1 e2 e3 d e4 = rw d (e4 ∙ ap (λ (b : List ℕ). putAt b 24 (be32 1)) (longs-put e1 e2 e3))
+
+  -- where there is room the numbers are the cursor's bytes
+  pub cursor-put : 28 ≤ length l → putCursor l c ≡ putAt l 0 (cursorBytes c)
+  unfolding putCursor cursorBytes
+  cursor-put h =
+      let l1 = putLong l 0 (c .block) in
+      let l2 = putLong l1 8 (c .place) in
+      let n1 = putLong-length l 0 (c .block) in
+      let n2 = putLong-length l1 8 (c .place) in
+      let p : Put l 0 8 (be64 (c .block)) l1 = record { size = be64-length _; is = long-put l 0 (c .block) (omega arith) } in
+      let q = put-then p (be64 (c .place)) (be64-length _) (long-put l1 8 (c .place) (omega arith)) refl (omega arith) in
+      let r = put-then q (be64 (c .base)) (be64-length _) (long-put l2 16 (c .base) (omega arith)) refl (omega arith) in
+      put-then r (be32 (pick (c .due) 0 1)) (be32-length _) refl refl (omega arith) .is
+
+-- ---- A cue
+
+pub cue-long : (start kind name : ℕ) → length (cueBytes start kind name) ≡ 16
+unfolding cueBytes be64 be32
+cue-long start kind name = refl
+
+module _ (l : List ℕ) (at start kind name : ℕ) where
+  pub three-put : {l1 l2 l3 : List ℕ} → l1 ≡ putLong l at start → l2 ≡ putAt l1 (at + 8) (be32 kind) → l3 ≡ putAt l2 (at + 12) (be32 name) → l3 ≡ putCue l at start kind name
+  unfolding putCue
+  three-put e1 e2 e3 = e3 ∙ ap (λ (b : List ℕ). putAt b (at + 12) (be32 name)) (e2 ∙ ap (λ (b : List ℕ). putAt b (at + 8) (be32 kind)) e1)
+
+  -- where there is room the numbers are the cue's bytes
+  pub cue-put : at + 16 ≤ length l → putCue l at start kind name ≡ putAt l at (cueBytes start kind name)
+  unfolding putCue cueBytes
+  cue-put h =
+      let p : Put l at 8 (be64 start) (putLong l at start) = record { size = be64-length _; is = long-put l at start (omega arith) } in
+      let q = put-then p (be32 kind) (be32-length _) refl refl (omega arith) in
+      let e : at + 12 ≡ at + (8 + 4) = refl in
+      put-then q (be32 name) (be32-length _) refl e (omega arith) .is
+
+-- ---- What a cue call gave
+
+module _ (out : List ℕ) (at : ℕ) {q : CueReply} {l : List ℕ} where
+  pub loop-put : (start : ℕ) → q ≡ CueReply.Loop start → l ≡ putCue out at start 1 0 → (0 ≡ replyNumber q) × (l ≡ replyPut out at q)
+  loop-put start e f = rw e (refl, f)
+
+  pub point-put : (start name : ℕ) → q ≡ CueReply.Point start name → l ≡ putCue out at start 0 name → (0 ≡ replyNumber q) × (l ≡ replyPut out at q)
+  point-put start name e f = rw e (refl, f)

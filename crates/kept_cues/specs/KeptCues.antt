@@ -1,0 +1,113 @@
+-- Cue calls one after the other on a kept record: the cursor in bytes, the bytes of a cue, and what as many calls as there is room for give.
+use Prim.Native.Nat.{ℕ, zero, suc, _+_, _/_}
+use mathlib.Core.List.{List, [], _++_}
+use lib.ListN.{length}
+use lib.Dec.{ltb, eqb}
+use Rattle.layout.specs.Choice.{pick, _and_}
+use Rattle.layout.specs.Puts.{putAt}
+use Rattle.layout.specs.Records.{be32}
+use Rattle.reader.specs.declared.HpsReader.{HpsReader}
+use Rattle.reader.specs.declared.CueIterator.{CueIterator}
+use Rattle.reader.specs.CuesReadBack.{CueAnswer, cursor, firstCursor, cueStep}
+use Rattle.cue_reader.specs.declared.CueReply.{CueReply}
+use Rattle.kept_reader.specs.KeptReader.{wordAt, longAt, be64, putLong, readerIn}
+use Rattle.kept_cues.specs.declared.CuesFilled.{CuesFilled}
+
+-- ---- The cursor in bytes
+
+-- The cursor that bytes hold: block, place and base; the Loop is due if the record has one and the last number is 0. All zeros are the first cursor.
+unfoldable pub cursorIn : HpsReader → List ℕ → CueIterator
+cursorIn r bs = cursor (longAt bs 0) (longAt bs 8) (longAt bs 16) (firstCursor r .due and eqb (wordAt bs 24) 0)
+
+-- The bytes of a cursor. Of the 32 lent the last 4 are left as they are.
+unfoldable pub cursorBytes : CueIterator → List ℕ
+cursorBytes c = be64 (c .block) ++ be64 (c .place) ++ be64 (c .base) ++ be32 (pick (c .due) 0 1)
+
+-- A cursor put number by number, each where it fits.
+unfoldable pub putCursor : List ℕ → CueIterator → List ℕ
+putCursor bs c = putAt (putLong (putLong (putLong bs 0 (c .block)) 8 (c .place)) 16 (c .base)) 24 (be32 (pick (c .due) 0 1))
+
+-- ---- A cue in bytes
+
+-- A cue in 16 bytes: its start, 0 for a point or 1 for the loop, and its name.
+unfoldable pub cueBytes : (start kind name : ℕ) → List ℕ
+cueBytes start kind name = be64 start ++ be32 kind ++ be32 name
+
+-- A cue put number by number, each where it fits.
+unfoldable pub putCue : List ℕ → (at start kind name : ℕ) → List ℕ
+putCue out at start kind name = putAt (putAt (putLong out at start) (at + 8) (be32 kind)) (at + 12) (be32 name)
+
+-- A cue call's number: 0 where it gave a cue, 255 for the end.
+abbrev pub replyNumber : CueReply → ℕ
+replyNumber (CueReply.Refused n) = n
+replyNumber CueReply.End = 255
+replyNumber (CueReply.Loop start) = 0
+replyNumber (CueReply.Point start name) = 0
+
+-- Bytes after a cue call: with the cue where it gave one.
+abbrev pub replyPut : List ℕ → (at : ℕ) → CueReply → List ℕ
+replyPut out at (CueReply.Refused n) = out
+replyPut out at CueReply.End = out
+replyPut out at (CueReply.Loop start) = putCue out at start 1 0
+replyPut out at (CueReply.Point start name) = putCue out at start 0 name
+
+-- ---- Cue calls one after the other
+
+-- What they give: the number of the call that gave no cue, 0 where all gave one; how many cues, the cursor after them, and their bytes.
+pub record CuesGiven : Type 0 where
+  pub number : ℕ
+  pub count : ℕ
+  pub after : CueIterator
+  pub bytes : List ℕ
+
+-- No cue.
+abbrev pub noCue : (number : ℕ) → CueIterator → CuesGiven
+noCue n c = record { number = n; count = 0; after = c; bytes = [] }
+
+-- So many cues with these bytes before others.
+abbrev pub ahead : ℕ → List ℕ → CuesGiven → CuesGiven
+ahead n bs g = record { number = g .number; count = n + g .count; after = g .after; bytes = bs ++ g .bytes }
+
+-- A call's answer and the cursor after it, before what the calls after it give: a call that gives no cue is the last.
+abbrev pub oneCue : CueAnswer → CueIterator → CuesGiven → CuesGiven
+oneCue (CueAnswer.refused n) c rest = noCue n c
+oneCue CueAnswer.ended c rest = noCue 255 c
+oneCue (CueAnswer.loop start) c rest = ahead 1 (cueBytes start 1 0) rest
+oneCue (CueAnswer.point start name) c rest = ahead 1 (cueBytes start 0 name) rest
+
+-- As many cue calls as there is room for cues, each from the cursor after the former.
+unfoldable pub cuesFrom : (slot : List ℕ) → HpsReader → (room : ℕ) → CueIterator → CuesGiven
+cuesFrom s r zero c = noCue 0 c
+cuesFrom s r (suc n) c = oneCue (cueStep s r c .answer) (cueStep s r c .after) (cuesFrom s r n (cueStep s r c .after))
+
+-- The struct that a loop of cue calls returns.
+abbrev pub filledOf : (number cues : ℕ) → CueIterator → CuesFilled
+filledOf n k c = record { number = n; cues = k; cursor = c }
+
+-- The same of what the calls give.
+abbrev pub givenOf : CuesGiven → CuesFilled
+givenOf g = filledOf (g .number) (g .count) (g .after)
+
+-- ---- On lent bytes
+
+-- What is lent for cues: the cursor's bytes, the bytes for cues, and a number for how many.
+pub record CuesLent : Type 0 where
+  pub cursor : List ℕ
+  pub out : List ℕ
+  pub cues : ℕ
+
+-- The cue calls: from the cursor that the bytes hold, as many as 16 bytes each fit.
+unfoldable pub cuesOn : (slot kept : List ℕ) → CuesLent → CuesGiven
+cuesOn s kept b = cuesFrom s (readerIn kept) (length (b .out) / 16) (cursorIn (readerIn kept) (b .cursor))
+
+-- Their number: 14 where the cursor's bytes are fewer than 32, 254 where the kept bytes hold no record.
+unfoldable pub cuesNumber : (slot kept : List ℕ) → CuesLent → ℕ
+cuesNumber s kept b = pick (ltb (length (b .cursor)) 32) 14 (pick (eqb (readerIn kept .count) 0) 254 (cuesOn s kept b .number))
+
+-- What is lent after them: with 14 and 254 as it was; else the cursor after the cues, the cues one after the other from the start, the rest as it was, and
+-- how many. So it is with every other number: cues that were given before a call that was refused are there.
+unfoldable pub cuesLent : (slot kept : List ℕ) → CuesLent → CuesLent
+cuesLent s kept b =
+    pick (ltb (length (b .cursor)) 32) b
+    (pick (eqb (readerIn kept .count) 0) b
+    (record { cursor = putAt (b .cursor) 0 (cursorBytes (cuesOn s kept b .after)); out = putAt (b .out) 0 (cuesOn s kept b .bytes); cues = cuesOn s kept b .count }))

@@ -3,13 +3,15 @@ use cuts::Ask;
 use cuts::answer;
 use cuts::files::SCRIPT_LIMIT;
 use cuts::files::read_file;
+use cuts::files::script_room;
 use io::buffer;
 use io::read_full;
 use io::write_all;
 use libc::STDERR_FILENO;
 use libc::STDOUT_FILENO;
-use script::numbers::Number;
-use script::numbers::unsigned;
+use printing::slot_room;
+use words::numbers::Number;
+use words::numbers::unsigned;
 
 fn tell(text: &[u8]) {
     write_all(STDERR_FILENO, text);
@@ -44,7 +46,7 @@ fn answer_script(text: &[u8], ask: Ask) {
     }
     let mut name = buffer();
     let k = os::arg(1, &mut name);
-    let mut slot = [0u8; 65537];
+    let mut slot = slot_room();
     let earlier = read_file(&name[..k], &mut slot);
     let n = earlier.length;
     if earlier.good {
@@ -63,24 +65,15 @@ fn open_script() -> i32 {
     fd
 }
 
-// Reads SCRIPT into a lent buffer and answers.
-fn read_and_answer(fd: i32, text: &mut [u8], ask: Ask) {
-    let n = read_full(fd, text);
-    answer_script(&text[..n], ask);
-}
-
-// A buffer that is a byte longer than the longest script, by which a longer one is seen.
-fn answer_in(fd: i32, text: &mut [u8; 1048577], ask: Ask) {
-    read_and_answer(fd, text, ask);
-}
-
+// Reads SCRIPT and answers.
 fn run(ask: Ask) {
     let fd = open_script();
     if fd < 0 {
         return;
     }
-    let mut text = [0u8; 1048577];
-    answer_in(fd, &mut text, ask);
+    let mut text = script_room();
+    let n = read_full(fd, &mut text);
+    answer_script(&text[..n], ask);
 }
 
 fn main() {

@@ -1,12 +1,12 @@
 // The runs of moments with the same listing.
-use crate::noted::Noted;
+use calls::noted::Noted;
+use calls::telling::print_numbers;
 use printing::print_listing;
-use printing::print_numbers;
 use printing::same_listing;
 use puts::put_bytes;
 use tearing::least;
 use tearing::reach_next;
-ghost use Rattle.cuts.specs.Underway.{Listed};
+ghost use Rattle.calls.specs.Underway.{Listed};
 
 // The first moment of the run, and the moment that the slot is at.
 struct Run {
@@ -15,7 +15,7 @@ struct Run {
 }
 
 fn print_run(fd: i32, run: Run, first: &[u8]) {
-    print_numbers(fd, b"TIME", &[run.from, run.now]);
+    print_numbers(fd, b"TIME", [run.from, run.now, 0], 2);
     print_listing(fd, first);
 }
 

@@ -6,6 +6,7 @@ use cuts::files::read_file;
 use io::large_buffer;
 use io::write_all;
 use libc::STDOUT_FILENO;
+use printing::slot_room;
 
 // Whether two files are the same; what they have past 65,536 bytes is not looked at.
 fn same_files(one: &[u8], two: &[u8]) -> bool {
@@ -28,7 +29,7 @@ fn write_answer(earlier: &[u8], script: &[u8], ask: Ask) {
 }
 
 fn run(slot: &[u8], script: &[u8], listing: &[u8], ask: Ask) {
-    let mut earlier = [0u8; 65537];
+    let mut earlier = slot_room();
     let mut text = large_buffer();
     let one = read_file(slot, &mut earlier);
     let two = read_file(script, &mut text);

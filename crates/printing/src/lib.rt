@@ -1,19 +1,24 @@
-// Listings and lines of numbers, printed.
+// Listings, printed.
 use check::same;
 use io::large_buffer;
 use io::write_all;
-use lines::columns::put_column;
 use listing::Stage;
 use listing::listing::fill;
 use listing::listing::start_listing;
-use puts::put_bytes;
-use puts::put_u8;
 use reader::HpsReader;
 ghost use mathlib.Core.Path.{_≡_};
 ghost use mathlib.Core.Bool.{true};
+ghost use lib.ListN.{length};
 ghost use Rattle.reader.specs.OpeningAndReading.{Readable};
 ghost use Rattle.listing.specs.MarkingKey.{listing, listingFrom};
 ghost use Rattle.printing.specs.Stops.{stopNumber};
+
+// Room for a slot: one byte more than is listed, so that a longer slot is seen to be longer.
+pub fn slot_room() -> [u8; 65537]
+    ensures { λ r. ⌜ 65537 ≡ length r ⌝ }
+{
+    [0; 65537]
+}
 
 // A listing has fewer than 5,000,000 bytes, and each turn takes 65,000 or the rest.
 const TURNS: usize = 100;
@@ -96,23 +101,4 @@ pub fn same_listing(a: &[u8], b: &[u8]) -> bool
     let r = left.reader;
     let q = right.reader;
     same_lines(a, r, here, b, q, there)
-}
-
-// A four-letter word and numbers of 11 columns, as a line of the listing has them.
-pub fn print_numbers(fd: i32, word: &[u8; 4], numbers: &[u64]) {
-    let mut out = [0u8; 64];
-    put_bytes(&mut out, 0, word);
-    let mut at: usize = 4;
-    let mut i: usize = 0;
-    while i < numbers.len() {
-        if i == 5 {
-            break;
-        }
-        put_column(&mut out, at, 11, numbers[i]);
-        at += 11;
-        i += 1;
-    }
-    put_u8(&mut out, at, b'\n');
-    let end = at + 1;
-    write_all(fd, &out[..end]);
 }

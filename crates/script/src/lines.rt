@@ -1,11 +1,11 @@
 // What each kind of line says. A line's last word stands at one below its count.
-use crate::hex::is_data;
-use crate::numbers::signed;
-use crate::numbers::unsigned;
-use crate::text::Words;
-use crate::text::word;
-use check::same;
 use layout::FrameContext;
+use stored::number;
+use words::hex::is_data;
+use words::numbers::signed;
+use words::numbers::unsigned;
+use words::text::Words;
+use words::text::word;
 use writer::ChannelBlock;
 use writer::Cue;
 use writer::CueKind;
@@ -16,6 +16,23 @@ const U64: u64 = 18446744073709551615;
 const U32: u64 = 4294967295;
 
 const U16: u64 = 65535;
+
+// The first words, as big-endian numbers of their four letters.
+const BEGN: u32 = 0x4245474e;
+
+const CUEP: u32 = 0x43554550;
+
+const LOOP: u32 = 0x4c4f4f50;
+
+const CUER: u32 = 0x43554552;
+
+const PUSH: u32 = 0x50555348;
+
+const CHAN: u32 = 0x4348414e;
+
+const FINI: u32 = 0x46494e49;
+
+const LENT: u32 = 0x4c454e54;
 
 // What a line's first word says it is; nothing is a line with no word.
 pub enum Kind {
@@ -58,61 +75,35 @@ pub struct LentLine {
     pub length: u64,
 }
 
-// The kind that a first word names.
-fn named(name: &[u8]) -> Kind {
-    if same(name, b"BEGN") {
-        return Kind::Begin;
-    }
-    if same(name, b"CUEP") {
-        return Kind::Point;
-    }
-    if same(name, b"LOOP") {
-        return Kind::Loop;
-    }
-    if same(name, b"CUER") {
-        return Kind::Range;
-    }
-    if same(name, b"PUSH") {
-        return Kind::Push;
-    }
-    if same(name, b"CHAN") {
-        return Kind::Channel;
-    }
-    if same(name, b"FINI") {
-        return Kind::Finish;
-    }
-    if same(name, b"LENT") {
-        return Kind::Lent;
-    }
-    Kind::Unknown
-}
-
-// How many words a line of this kind has.
-fn words_of(kind: Kind) -> usize {
-    match kind {
-        Kind::Begin => 3,
-        Kind::Point => 3,
-        Kind::Loop => 3,
-        Kind::Range => 4,
-        Kind::Push => 3,
-        Kind::Channel => 24,
-        Kind::Finish => 1,
-        Kind::Lent => 2,
-        Kind::Nothing => 0,
-        Kind::Unknown => 0,
-    }
-}
-
 // A line with a word missing or one too many is unknown.
+fn with_words(kind: Kind, count: usize, due: usize) -> Kind {
+    if count == due { kind } else { Kind::Unknown }
+}
+
+// The kind that a first word of four letters names, in a line of so many words.
+fn named(letters: u32, count: usize) -> Kind {
+    match letters {
+        BEGN => with_words(Kind::Begin, count, 3),
+        CUEP => with_words(Kind::Point, count, 3),
+        LOOP => with_words(Kind::Loop, count, 3),
+        CUER => with_words(Kind::Range, count, 4),
+        PUSH => with_words(Kind::Push, count, 3),
+        CHAN => with_words(Kind::Channel, count, 24),
+        FINI => with_words(Kind::Finish, count, 1),
+        LENT => with_words(Kind::Lent, count, 2),
+        _ => Kind::Unknown,
+    }
+}
+
 pub fn kind_of(s: &[u8], w: Words) -> Kind {
     if w.count == 0 {
         return Kind::Nothing;
     }
-    let kind = named(word(s, w, 0));
-    if w.count == words_of(kind) {
-        return kind;
+    let name = word(s, w, 0);
+    if name.len() != 4 {
+        return Kind::Unknown;
     }
-    Kind::Unknown
+    named(number(name, 0), w.count)
 }
 
 fn mode_of(n: u64) -> Looping {
@@ -147,23 +138,17 @@ fn cue_at(s: &[u8], w: Words, kind: CueKind, name: usize) -> CueLine {
     }
 }
 
-// CUEP start name
-pub fn point_line(s: &[u8], w: Words) -> CueLine {
-    cue_at(s, w, CueKind::Point, 2)
-}
-
-// LOOP start name
-pub fn loop_line(s: &[u8], w: Words) -> CueLine {
-    cue_at(s, w, CueKind::Loop, 2)
-}
-
-// CUER start length name
-pub fn range_line(s: &[u8], w: Words) -> CueLine {
-    let length = unsigned(word(s, w, 2), U64);
-    let line = cue_at(s, w, CueKind::Range(length.value), 3);
+// CUEP start name, LOOP start name or CUER start length name. The second number is a length or a name: that it is a number is asked of both.
+pub fn cue_line(s: &[u8], w: Words, kind: Kind) -> CueLine {
+    let second = unsigned(word(s, w, 2), U64);
+    let line = match kind {
+        Kind::Range => cue_at(s, w, CueKind::Range(second.value), 3),
+        Kind::Loop => cue_at(s, w, CueKind::Loop, 2),
+        _ => cue_at(s, w, CueKind::Point, 2),
+    };
     let cue = line.cue;
     CueLine {
-        good: line.good & length.good,
+        good: line.good & second.good,
         cue,
     }
 }

@@ -3,15 +3,13 @@
 use crate::lines::Kind;
 use crate::lines::begin_line;
 use crate::lines::channel_line;
+use crate::lines::cue_line;
 use crate::lines::kind_of;
 use crate::lines::lent_line;
-use crate::lines::loop_line;
-use crate::lines::point_line;
 use crate::lines::push_line;
-use crate::lines::range_line;
-use crate::text::Words;
-use crate::text::line_at;
-use crate::text::words_in;
+use words::text::Words;
+use words::text::line_at;
+use words::text::words_in;
 
 // What the lines so far ask of the next: whether BEGN was there, and how many CHAN lines are due.
 struct Due {
@@ -25,9 +23,7 @@ fn says_all(s: &[u8], w: Words, kind: Kind) -> bool {
     match kind {
         Kind::Nothing => true,
         Kind::Begin => begin_line(s, w).good,
-        Kind::Point => point_line(s, w).good,
-        Kind::Loop => loop_line(s, w).good,
-        Kind::Range => range_line(s, w).good,
+        Kind::Point | Kind::Loop | Kind::Range => cue_line(s, w, kind).good,
         Kind::Push => push_line(s, w).good,
         Kind::Channel => channel_line(s, w).good,
         Kind::Finish => true,

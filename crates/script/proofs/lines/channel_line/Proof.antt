@@ -6,11 +6,11 @@ use Rattle.script.proofs.lines.channel_line.Statement.{statement}
 use Rattle.script.proofs.lines.channel_line.Tie as tie
 use Rattle.script.proofs.lines.channel_line.Reads as reads
 use Rattle.script.proofs.lines.channel_line.Lts as lts
-use Rattle.script.proofs.hex.is_data.Reads as is-data-reads
+use Rattle.words.proofs.hex.is_data.Reads as is-data-reads
 use Rattle.script.proofs.lines.data_word.Reads as data-word-reads
 use Rattle.script.proofs.lines.side_of.Reads as side-of-reads
-use Rattle.script.proofs.numbers.signed.Reads as signed-reads
-use Rattle.script.proofs.text.word.Reads as word-reads
+use Rattle.words.proofs.numbers.signed.Reads as signed-reads
+use Rattle.words.proofs.text.word.Reads as word-reads
 
 abbrev Inv-loop : tie.InvT-loop
 Inv-loop s w coefficients₀ good₀ i₀ coefficients good i = (length coefficients ≡ 16) × (i ≤ 16)

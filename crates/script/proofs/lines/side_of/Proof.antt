@@ -4,9 +4,9 @@ use Rattle.script.proofs.lines.side_of.Statement.{statement}
 use Rattle.script.proofs.lines.side_of.Tie as tie
 use Rattle.script.proofs.lines.side_of.Reads as reads
 use Rattle.script.proofs.lines.side_of.Lts as lts
-use Rattle.script.proofs.numbers.signed.Reads as signed-reads
-use Rattle.script.proofs.numbers.unsigned.Reads as unsigned-reads
-use Rattle.script.proofs.text.word.Reads as word-reads
+use Rattle.words.proofs.numbers.signed.Reads as signed-reads
+use Rattle.words.proofs.numbers.unsigned.Reads as unsigned-reads
+use Rattle.words.proofs.text.word.Reads as word-reads
 
 -- src/lines.rt:192:25
 word-requires : tie.Need-word-requires

@@ -6,8 +6,8 @@ use Rattle.script.proofs.whole.wrong_line.Statement.{statement}
 use Rattle.script.proofs.whole.wrong_line.Tie as tie
 use Rattle.script.proofs.whole.wrong_line.Reads as reads
 use Rattle.script.proofs.whole.wrong_line.Lts as lts
-use Rattle.script.proofs.text.line_at.Reads as line-at-reads
-use Rattle.script.proofs.text.words_in.Reads as words-in-reads
+use Rattle.words.proofs.text.line_at.Reads as line-at-reads
+use Rattle.words.proofs.text.words_in.Reads as words-in-reads
 use Rattle.script.proofs.whole.after_line.Reads as after-line-reads
 
 abbrev Inv-loop : tie.InvT-loop

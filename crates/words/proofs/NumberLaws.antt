@@ -1,0 +1,68 @@
+-- A decimal read digit by digit.
+use Prim.Native.Nat.{ℕ, suc, _+_, _-_, _*_, _<_, _≤_}
+use mathlib.Core.Path.{_≡_, refl, sym, _∙_}
+use mathlib.Core.Bool.{true, false}
+use mathlib.Core.List.{List, [], _∷_}
+use native.Mathlib.Omega.{arith}
+use native.Mathlib.Numerals.{add-one}
+use lib.ListN.{length, getD, drop}
+use lib.Seq.{drop-cons, drop-length}
+use lib.Dec.{leb}
+use borrow.Author.Tests.{le-leb, lt-leb}
+use Rattle.layout.specs.Choice.{pick, _and_}
+use Rattle.words.specs.Numbers.{noNumber, decimalFrom, decimalOf}
+use Rattle.words.specs.declared.numbers.Number.{Number}
+
+-- The first i digits of a word make v.
+pub record Reading (max : ℕ) (word : List ℕ) (v i : ℕ) : Type 0 where
+  pub few : i ≤ length word
+  pub small : v ≤ max
+  pub is : decimalOf max word ≡ decimalFrom max v (drop i word)
+
+pub reading-none : (max : ℕ) (word : List ℕ) → (length word ≡ 0 → ⊥) → Reading max word 0 0
+unfolding decimalOf
+reading-none max [] h = absurd (h refl)
+reading-none max (b ∷ bs) h = record { few = omega arith; small = omega arith; is = refl }
+
+-- What is answered of a word.
+abbrev pub Answers : (max : ℕ) (word : List ℕ) → Number → Type 0
+Answers max word x = (x ≡ decimalOf max word) × (x .value ≤ max)
+
+none-of : {max : ℕ} (word : List ℕ) {x : Number} → x ≡ noNumber → decimalOf max word ≡ noNumber → Answers max word x
+none-of {max} word {x} e d = (e ∙ sym d, rw e (omega arith))
+
+pub no-word : {max : ℕ} (word : List ℕ) {x : Number} → x ≡ noNumber → length word ≡ 0 → Answers max word x
+unfolding decimalOf
+no-word [] e h = none-of [] e refl
+no-word (b ∷ bs) e h = absurd (omega arith)
+
+module _ {max : ℕ} {word : List ℕ} {v i : ℕ} (r : Reading max word v i) (h : i < length word) where
+  next : decimalOf max word ≡ decimalFrom max v (getD word i 0 ∷ drop (suc i) word)
+  next = r .is ∙ rw (drop-cons word i 0)
+
+  pub low : {x : Number} → x ≡ noNumber → getD word i 0 < 48 → Answers max word x
+  unfolding decimalFrom
+  low e t = none-of word e (next ∙ rw (lt-leb 48 (getD word i 0) t))
+
+  pub high : {x : Number} → x ≡ noNumber → 48 ≤ getD word i 0 → 57 < getD word i 0 → Answers max word x
+  unfolding decimalFrom
+  high e s t = none-of word e (next ∙ rw (le-leb 48 (getD word i 0) s, lt-leb (getD word i 0) 57 t))
+
+  pub over : {x : Number} → x ≡ noNumber → 48 ≤ getD word i 0 → getD word i 0 ≤ 57 → max < 10 * v + (getD word i 0 - 48) → Answers max word x
+  unfolding decimalFrom
+  over e s t o = none-of word e (next ∙ rw (le-leb 48 (getD word i 0) s, le-leb (getD word i 0) 57 t, lt-leb (10 * v + (getD word i 0 - 48)) max o))
+
+  pub more : 48 ≤ getD word i 0 → getD word i 0 ≤ 57 → 10 * v + (getD word i 0 - 48) ≤ max → Reading max word (10 * v + (getD word i 0 - 48)) (i + 1)
+  unfolding decimalFrom
+  more s t o =
+      record {
+        few = omega arith;
+        small = o;
+        is = next ∙ rw (le-leb 48 (getD word i 0) s, le-leb (getD word i 0) 57 t, le-leb (10 * v + (getD word i 0 - 48)) max o, add-one);
+      }
+
+pub all : {max : ℕ} {word : List ℕ} {v i : ℕ} → Reading max word v i → length word ≤ i → Answers max word (record { good = true; value = v })
+unfolding decimalFrom
+all {word = word} {i = i} r h =
+    let e : i ≡ length word = omega (arith, r .few) in
+    (sym (r .is ∙ rw (e, drop-length)), r .small)

@@ -28,7 +28,7 @@ ghost use Rattle.block_writer.specs.PushData.{dataIn};
 pub const HEADER_SIZE: usize = 32;
 
 // The record without its table of cues.
-fn stream_of(w: HpsWriter) -> Stream
+pub fn stream_of(w: HpsWriter) -> Stream
     ensures { λ s. ⌜ s ≡ streamOf w ⌝ }
 {
     let mode = w.mode;

@@ -9,14 +9,8 @@ use lib.Dec.{eqb}
 use borrow.Author.Tests.{lt-ltb, le-ltb, le-leb, eq-eqb, ne-eqb}
 use Rattle.layout.proofs.Cases.{by-cases}
 use Rattle.layout.specs.Puts.{putAt}
-use Rattle.writer.specs.Loading.{Answer, accepted, refused, Push, beginRefusal, beginWrites, pushRefusal, finishRefusal, headerWrites}
-use Rattle.writer.specs.Calls.{outcome, replyOf, called, finished, beginOf, pushOf, finishOf, blank, emptyOf, standingIn, takenOf, afterPush, pushBytes, afterFinish, headerOf}
-use Rattle.writer.specs.WritesAndCuttingRule.{Write, write}
-use Rattle.writer.specs.declared.HpsWriter.{HpsWriter}
-use Rattle.writer.specs.declared.Looping.{Looping}
-use Rattle.writer.specs.declared.Reply.{Reply}
-use Rattle.writer.specs.declared.Called.{Called}
-use Rattle.writer.specs.declared.Finished.{Finished}
+use Rattle.writer.specs.Loading.{Answer, accepted, refused}
+use Rattle.kept_loading.specs.KeptLoading.{numberOf}
 use Rattle.estimate.specs.EstimateAnswers.{estimateReply}
 use Rattle.estimate.specs.declared.EstimateReply.{EstimateReply}
 use Rattle.reader.specs.OpeningAndReading.{Opened, blockRead, Remaining}
@@ -26,7 +20,7 @@ use Rattle.listing.specs.MarkingKey.{listing, listingFrom}
 use Rattle.listing.specs.Filling.{FilledIs}
 use Rattle.listing.specs.declared.Stage.{Stage}
 use Rattle.listing.specs.declared.listing.Line.{Line}
-use Rattle.hps.specs.Exported.{numberOf, lentAfter, openNumber, keptAfter, onRecord, BlockLent, blockLent, addressesAfter, Listed}
+use Rattle.hps.specs.Exported.{givenAfter, lengthAfter, openNumber, keptAfter, onRecord, BlockLent, blockLent, addressesAfter, Listed}
 
 -- ---- The estimate
 
@@ -37,7 +31,7 @@ pub estimate-refused : (a : Answer) (q : EstimateReply) (n : ℕ) → q ≡ esti
 estimate-refused (refused m) q n e f = cc
 estimate-refused (accepted m) q n e f = not-both m n (sym e ∙ f)
 
-pub estimate-left : (a : Answer) (q : EstimateReply) (n before : ℕ) → q ≡ estimateReply a → q ≡ EstimateReply.Refused n → before ≡ lentAfter before a
+pub estimate-left : (a : Answer) (q : EstimateReply) (n before : ℕ) → q ≡ estimateReply a → q ≡ EstimateReply.Refused n → before ≡ lengthAfter before a
 estimate-left (refused m) q n before e f = refl
 estimate-left (accepted m) q n before e f = not-both m n (sym e ∙ f)
 
@@ -45,7 +39,7 @@ pub estimate-accepted : (a : Answer) (q : EstimateReply) (n : ℕ) → q ≡ est
 estimate-accepted (refused m) q n e f = not-both n m (sym f ∙ e)
 estimate-accepted (accepted m) q n e f = refl
 
-pub estimate-given : (a : Answer) (q : EstimateReply) (n before : ℕ) → q ≡ estimateReply a → q ≡ EstimateReply.Length n → n ≡ lentAfter before a
+pub estimate-given : (a : Answer) (q : EstimateReply) (n before : ℕ) → q ≡ estimateReply a → q ≡ EstimateReply.Length n → n ≡ lengthAfter before a
 estimate-given (refused m) q n before e f = not-both n m (sym f ∙ e)
 estimate-given (accepted m) q n before e f = cc
 
@@ -119,24 +113,9 @@ listed {s} {r} {stage} {before} {after} {q} f e =
 
 -- ---- Loading calls
 
-pub accepted-leaves : {A : Type 0} {x y : A} → 0 < 0 → x ≡ y
-accepted-leaves h = absurd (omega arith)
+module _ (n : ℕ) (before x : ℕ) where
+  pub given : n ≡ 0 → x ≡ givenAfter n before x
+  given e = rw (eq-eqb n 0 e)
 
-outcome-left : (number : ℕ) (w next : HpsWriter) (lent : List ℕ) (m : ℕ) (ws : List Write) (n : ℕ) → replyOf (outcome number w lent next m ws .answer) ≡ Reply.Refused n → outcome number w lent next m ws .lent ≡ lent
-outcome-left number w next lent m ws n e =
-    by-cases (eqb number 0)
-    (λ t. let k = rw t at e in absurd (let z : _≡_ {A = ℕ} 0 1 = cc in omega arith))
-    (λ t. rw t)
-
-module _ (q : Called) (n : ℕ) where
-  pub begin-left : (slot channels : ℕ) (mode : Looping) (lent : List ℕ) → q ≡ called (beginOf slot channels mode lent) → q .reply ≡ Reply.Refused n → beginOf slot channels mode lent .lent ≡ lent
-  unfolding beginOf
-  begin-left slot channels mode lent e f = outcome-left (beginRefusal slot channels (length lent)) blank (emptyOf slot channels mode) lent 0 beginWrites n (sym (ap (λ (x : Called). x .reply) e) ∙ f)
-
-  pub push-left : (w : HpsWriter) (p : Push) (lent : List ℕ) → q ≡ called (pushOf w p lent) → q .reply ≡ Reply.Refused n → pushOf w p lent .lent ≡ lent
-  unfolding pushOf
-  push-left w p lent e f = outcome-left (pushRefusal (standingIn w) (takenOf w p) p (length lent)) w (afterPush w p) lent 0 (write (w .offset) (pushBytes w p) ∷ []) n (sym (ap (λ (x : Called). x .reply) e) ∙ f)
-
-pub finish-left : (q : Finished) (n : ℕ) (w : HpsWriter) (lent : List ℕ) → q ≡ finished (finishOf w lent) → q .reply ≡ Reply.Refused n → finishOf w lent .lent ≡ lent
-unfolding finishOf
-finish-left q n w lent e f = outcome-left (finishRefusal (w .finished) (w .blocks) (w .last) (length lent)) w (afterFinish w) lent (w .offset) (headerWrites (headerOf w)) n (sym (ap (λ (x : Finished). x .reply) e) ∙ f)
+  pub left : (n ≡ 0 → ⊥) → before ≡ givenAfter n before x
+  left h = rw (ne-eqb n 0 h)

@@ -1,5 +1,5 @@
 -- What the exported calls give: a number, and what the lent numbers and bytes hold after it.
-use Prim.Native.Nat.{ℕ, _+_, _≤_, _<_}
+use Prim.Native.Nat.{ℕ, _+_, _≤_}
 use mathlib.Core.Path.{_≡_}
 use mathlib.Core.List.{List}
 use lib.ListN.{length, take}
@@ -8,20 +8,22 @@ use lib.IntN.{ℤ}
 use Rattle.layout.specs.Choice.{pick}
 use Rattle.layout.specs.Puts.{putAt}
 use Rattle.writer.specs.Loading.{Answer, accepted, refused}
+use Rattle.writer.specs.Calls.{beginOf, cueOf}
+use Rattle.kept_sides.specs.KeptSides.{kindOf}
+use Rattle.kept_writer.specs.KeptWriter.{loaderSize, modeOf, writerIn}
+use Rattle.kept_loading.specs.KeptLoading.{callOf, whereRoom, onKept}
+use Rattle.kept_loading.specs.declared.KeptCall.{KeptCall}
 use Rattle.reader.specs.OpeningAndReading.{Opened, BlockAnswer, Remaining}
 use Rattle.reader.specs.declared.HpsReader.{HpsReader}
 use Rattle.kept_reader.specs.KeptReader.{openedSize, openedBytes}
 use Rattle.listing.specs.MarkingKey.{listing}
 
--- The refusal's number, 0 where the call is accepted.
-abbrev pub numberOf : Answer → ℕ
-numberOf (refused n) = n
-numberOf (accepted m) = 0
+-- ---- The estimate
 
 -- A lent number after the call: what an accepted call gives; a refused one leaves it.
-abbrev pub lentAfter : (before : ℕ) → Answer → ℕ
-lentAfter before (refused n) = before
-lentAfter before (accepted m) = m
+abbrev pub lengthAfter : (before : ℕ) → Answer → ℕ
+lengthAfter before (refused n) = before
+lengthAfter before (accepted m) = m
 
 -- ---- Opening
 
@@ -88,6 +90,23 @@ pub record Listed (s before after : List ℕ) (n : ℕ) : Type 0 where
 
 -- ---- Loading calls
 
--- A call that gives a number other than 0 leaves what it was lent as it was.
-abbrev pub Leaves : {A : Type 0} → (number : ℕ) → (before after : A) → Type 0
-Leaves n before after = 0 < n → after ≡ before
+-- A lent number after a call with this number: what it gives where it is accepted, else as it was.
+abbrev pub givenAfter : (number before given : ℕ) → ℕ
+givenAfter n before x = pick (eqb n 0) x before
+
+-- No such mode or kind.
+abbrev pub noKind : KeptCall
+noKind = record { number = 253; offset = 0; length = 0 }
+
+-- Begin: 253 where there is no such mode.
+abbrev pub beginCall : (slot channels mode : ℕ) (kept lent : List ℕ) → KeptCall
+beginCall n ch mode kept lent = pick (ltb 2 mode) noKind (whereRoom kept (callOf (beginOf n ch (modeOf mode) lent)))
+
+-- The lent buffer after begin.
+abbrev pub beginLent : (slot channels mode : ℕ) (kept lent : List ℕ) → List ℕ
+beginLent n ch mode kept lent = pick (ltb 2 mode) lent (pick (ltb (length kept) loaderSize) lent (beginOf n ch (modeOf mode) lent .lent))
+
+-- Cue's number: 253 where there is no such kind.
+abbrev pub cueNumber : (kept : List ℕ) (start kind range name : ℕ) → ℕ
+cueNumber kept start kind range name =
+    pick (ltb 2 kind) 253 (onKept kept (cueOf (writerIn kept) (record { start = start; kind = kindOf kind range; name = name })) .number)

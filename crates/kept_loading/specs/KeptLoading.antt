@@ -2,11 +2,12 @@
 use Prim.Native.Nat.{ℕ, _<_}
 use mathlib.Core.Path.{_≡_}
 use mathlib.Core.List.{List}
-use lib.Dec.{eqb}
+use lib.ListN.{length}
+use lib.Dec.{ltb, eqb}
 use Rattle.layout.specs.Choice.{pick}
 use Rattle.writer.specs.Loading.{Answer, accepted, refused}
 use Rattle.writer.specs.Calls.{Outcome, firstPlace}
-use Rattle.kept_writer.specs.KeptWriter.{streamIn}
+use Rattle.kept_writer.specs.KeptWriter.{loaderSize, streamIn}
 use Rattle.kept_loading.specs.declared.KeptCall.{KeptCall}
 
 -- The refusal's number, 0 where the call is accepted.
@@ -18,9 +19,23 @@ numberOf (accepted m) = 0
 abbrev pub callOf : Outcome → KeptCall
 callOf o = record { number = numberOf (o .answer); offset = firstPlace (o .places) .offset; length = firstPlace (o .places) .length }
 
+-- Begin: 14 where the bytes are too few for a record.
+abbrev pub whereRoom : List ℕ → KeptCall → KeptCall
+whereRoom kept q = pick (ltb (length kept) loaderSize) (record { number = 14; offset = 0; length = 0 }) q
+
 -- A call on the record that bytes hold: 254 where they hold none.
 abbrev pub onKept : List ℕ → Outcome → KeptCall
 onKept kept o = pick (eqb (streamIn kept .slot) 0) (record { number = 254; offset = 0; length = 0 }) (callOf o)
+
+-- What an accepted call gives beside its writes: finish the finished length.
+abbrev pub givenOf : Answer → ℕ
+givenOf (refused n) = 0
+givenOf (accepted m) = m
+
+-- Finish on the record that bytes hold.
+abbrev pub finishedKept : List ℕ → Outcome → KeptCall
+finishedKept kept o =
+    pick (eqb (streamIn kept .slot) 0) (record { number = 254; offset = 0; length = 0 }) (record { number = numberOf (o .answer); offset = 0; length = givenOf (o .answer) })
 
 -- The lent buffer after it.
 abbrev pub lentAfter : (kept lent : List ℕ) → Outcome → List ℕ

@@ -1,25 +1,37 @@
 // The loading calls on a record in lent bytes.
 use block_writer::push::HEADER_SIZE;
 use block_writer::push::put_data;
+use block_writer::push::stream_of;
+use header_writer::finish::finish;
+use kept_puts::put_finished;
 use kept_puts::put_numbers;
 use kept_puts::put_sides;
+use kept_puts::put_table;
+use kept_writer::loader::LOADER_SIZE;
 use kept_writer::loader::held_kept;
 use kept_writer::loader::put_taken_kept;
 use kept_writer::loader::stream_in;
 use kept_writer::loader::take_kept;
+use kept_writer::loader::writer_in;
 use push_plan::Stream;
 use push_plan::advance;
 use push_plan::block_end;
 use push_plan::plan_push;
 use writer::ChannelBlock;
+use writer::Cue;
+use writer::Looping;
+use writer::Reply;
+use writer::begin;
+use writer::cues::cue;
 use written::put_header;
 ghost use mathlib.Core.Path.{_≡_};
-ghost use lib.Dec.{eqb};
+ghost use lib.ListN.{length};
+ghost use lib.Dec.{ltb};
 ghost use Rattle.layout.specs.Choice.{pick};
-ghost use Rattle.writer.specs.Calls.{pushOf};
+ghost use Rattle.writer.specs.Calls.{beginOf, cueOf, pushOf, finishOf};
 ghost use Rattle.push_due.specs.PushDue.{pushArgs};
-ghost use Rattle.kept_writer.specs.KeptWriter.{writerIn};
-ghost use Rattle.kept_loading.specs.KeptLoading.{onKept, lentAfter, Leaves};
+ghost use Rattle.kept_writer.specs.KeptWriter.{loaderSize, writerIn};
+ghost use Rattle.kept_loading.specs.KeptLoading.{callOf, whereRoom, onKept, finishedKept, lentAfter, Leaves};
 
 // The bytes hold no record.
 pub const NO_RECORD: u32 = 254;
@@ -48,6 +60,64 @@ fn put_pushed(kept: &mut [u8], s: Stream) {
         let left = s.left;
         let right = s.right;
         put_sides(kept, left, right);
+    }
+}
+
+// Begin: the record is kept in the lent bytes, if they are enough for it.
+pub fn begin_kept(
+    slot: usize,
+    channels: usize,
+    mode: Looping,
+    kept: &mut [u8],
+    lent: &mut [u8],
+) -> KeptCall
+    ensures { λ q. ⌜ q ≡ whereRoom (now (kept .entry)) (callOf (beginOf slot channels mode (now (lent .entry)))) ⌝ }
+    ensures { λ _. ⌜ now (lent .exit) ≡ pick (ltb (length (now (kept .entry))) loaderSize) (now (lent .entry)) (beginOf slot channels mode (now (lent .entry)) .lent) ⌝ }
+    ensures { λ q. ⌜ Leaves (q .number) (now (kept .entry)) (now (kept .exit)) ⌝ }
+{
+    if kept.len() < LOADER_SIZE {
+        return refused(14);
+    }
+    let call = begin(slot, channels, mode, lent);
+    let reply = call.reply;
+    let place = call.place;
+    let w = call.writer;
+    match reply {
+        Reply::Refused(number) => refused(number),
+        Reply::Accepted(_) => {
+            let s = stream_of(w);
+            let left = s.left;
+            let right = s.right;
+            put_numbers(kept, s);
+            put_sides(kept, left, right);
+            KeptCall {
+                number: 0,
+                offset: place.offset,
+                length: place.length,
+            }
+        }
+    }
+}
+
+// Cue: it hands out no write.
+pub fn cue_kept(kept: &mut [u8], c: Cue) -> KeptCall
+    ensures { λ q. ⌜ q ≡ onKept (now (kept .entry)) (cueOf (writerIn (now (kept .entry))) c) ⌝ }
+    ensures { λ q. ⌜ Leaves (q .number) (now (kept .entry)) (now (kept .exit)) ⌝ }
+{
+    let w = writer_in(kept);
+    if w.slot == 0 {
+        return refused(NO_RECORD);
+    }
+    let call = cue(w, c);
+    let reply = call.reply;
+    let after = call.writer;
+    match reply {
+        Reply::Refused(number) => refused(number),
+        Reply::Accepted(_) => {
+            let cues = after.cues;
+            put_table(kept, cues, after.count);
+            refused(0)
+        }
     }
 }
 
@@ -114,5 +184,30 @@ pub fn push_kept(
         number: 0,
         offset: s.offset,
         length: plan.size,
+    }
+}
+
+// Finish: gives the finished length; its three writes' bytes lie in the lent buffer one after the other.
+pub fn finish_kept(kept: &mut [u8], lent: &mut [u8]) -> KeptCall
+    ensures { λ q. ⌜ q ≡ finishedKept (now (kept .entry)) (finishOf (writerIn (now (kept .entry))) (now (lent .entry))) ⌝ }
+    ensures { λ _. ⌜ now (lent .exit) ≡ lentAfter (now (kept .entry)) (now (lent .entry)) (finishOf (writerIn (now (kept .entry))) (now (lent .entry))) ⌝ }
+    ensures { λ q. ⌜ Leaves (q .number) (now (kept .entry)) (now (kept .exit)) ⌝ }
+{
+    let w = writer_in(kept);
+    if w.slot == 0 {
+        return refused(NO_RECORD);
+    }
+    let call = finish(w, lent);
+    let reply = call.reply;
+    match reply {
+        Reply::Refused(number) => refused(number),
+        Reply::Accepted(n) => {
+            put_finished(kept);
+            KeptCall {
+                number: 0,
+                offset: 0,
+                length: n,
+            }
+        }
     }
 }

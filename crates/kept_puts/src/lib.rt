@@ -12,6 +12,10 @@ use writer::LoopAt;
 use writer::Looping;
 ghost use Prim.Native.Nat.{_<_, _≤_};
 
+const COUNT_AT: usize = 16;
+
+const FINISHED_AT: usize = 84;
+
 const LEFT_AT: usize = 88;
 
 const RIGHT_AT: usize = 136;
@@ -45,7 +49,7 @@ fn flag(b: bool) -> u32 {
 fn put_places(kept: &mut [u8], slot: usize, channels: usize, count: usize, next: usize) {
     put_long(kept, 0, slot as u64);
     put_long(kept, 8, channels as u64);
-    put_long(kept, 16, count as u64);
+    put_long(kept, COUNT_AT, count as u64);
     put_long(kept, 24, next as u64);
 }
 
@@ -61,7 +65,7 @@ fn put_marks(kept: &mut [u8], loopat: LoopAt, mode: Looping, id: u32, last: bool
     put_u32(kept, 72, mode_number(mode));
     put_u32(kept, 76, id);
     put_u32(kept, 80, flag(last));
-    put_u32(kept, 84, flag(finished));
+    put_u32(kept, FINISHED_AT, flag(finished));
 }
 
 // The numbers of the record: its first 88 bytes.
@@ -138,9 +142,15 @@ fn put_cues(buf: &mut [u8], at: usize, cues: [Cue; 128], n: usize)
     }
 }
 
-// The first n cues of the table.
+// The table of n cues, and how many they are.
 pub fn put_table(kept: &mut [u8], cues: [Cue; 128], n: usize)
     requires { ⌜ n ≤ 128 ⌝ }
 {
+    put_long(kept, COUNT_AT, n as u64);
     put_cues(kept, CUES_AT, cues, n);
+}
+
+// The mark of a finished stream.
+pub fn put_finished(kept: &mut [u8]) {
+    put_u32(kept, FINISHED_AT, 1);
 }

@@ -1,65 +1,75 @@
-use mathlib.Core.Path.{refl, _∙_}
-use Rattle.hps.proofs.ExportedLaws.{accepted-leaves, begin-left}
+use mathlib.Core.Path.{_≡_, refl, ap, sym, _∙_}
+use borrow.Author.Tests.{lt-ltb, le-ltb}
+use Rattle.kept_loading.specs.declared.KeptCall.{KeptCall}
+use Rattle.hps.proofs.ExportedLaws.{given, left}
+use lib.ListN.{length}
+use lib.Dec.{ltb}
+use Rattle.layout.specs.Choice.{pick}
+use Rattle.writer.specs.Calls.{beginOf}
+use Rattle.writer.specs.declared.Looping.{Looping}
+use Rattle.kept_writer.specs.KeptWriter.{loaderSize}
+use Rattle.kept_loading.specs.KeptLoading.{callOf, whereRoom}
 use borrow.Author.Needs.{needs}
 use Rattle.hps.proofs.loading.hps_begin.Statement.{statement}
 use Rattle.hps.proofs.loading.hps_begin.Tie as tie
 use Rattle.hps.proofs.loading.hps_begin.Reads as reads
 use Rattle.hps.proofs.loading.hps_begin.Lts as lts
+use Rattle.kept_loading.proofs.begin_kept.Reads as begin-kept-reads
 use Rattle.kept_writer.proofs.loader.mode_of.Reads as mode-of-reads
-use Rattle.kept_writer.proofs.loader.put_writer.Reads as put-writer-reads
-use Rattle.writer.proofs.begin.Reads as begin-reads
 
 returns : tie.Need-returns
-returns c = search needs
-
-returns-2 : tie.Need-returns-2
-returns-2 c = search needs
+returns c = rw (lt-ltb 2 (c .before .before .before .args .mode) (c .if1 .taken)) (refl, ((refl, refl), (refl, λ _. refl)))
 
 mode-of-requires : tie.Need-mode-of-requires
 mode-of-requires c κs = search needs
 
-begin-requires : tie.Need-begin-requires
-begin-requires c κs = search needs
-
-enum-known-reply : tie.Need-enum-known-reply
-enum-known-reply c = search needs
-
-enum-told : tie.Need-enum-told
-enum-told c = search needs
-
-put-writer-requires : tie.Need-put-writer-requires
-put-writer-requires c κs = search needs
+begin-kept-requires : tie.Need-begin-kept-requires
+begin-kept-requires c κs = search needs
 
 same-length : tie.Need-same-length
 same-length c = search needs
 
-returns-3 : tie.Need-returns-3
-returns-3 c =
-    let k = c .before .before .before .before .before .before .before .begin .ensures in
-    (λ h. refl, λ h. k .1 .0 ∙ begin-left _ _ _ _ _ _ (k .0) (c .before .reply .given .1), λ h. refl, λ h. refl)
-
 same-length-2 : tie.Need-same-length-2
 same-length-2 c = search needs
+
+returns-2 : tie.Need-returns-2
+returns-2 c =
+    let b = c .before .before .before .before .before .before in
+    let m = b .before .before .before in
+    let e = m .before in
+    let s = e .before .before .before in
+    let a = s .args in
+    let q : b .begin-kept .result ≡ _ = b .begin-kept .ensures .0 ∙ ap (λ (x : Looping). whereRoom (a .kept .now) (callOf (beginOf (a .slot) (a .channels) x (a .lent .now)))) (m .mode-of .ensures) in
+    let l = b .begin-kept .ensures .1 .0 ∙ ap (λ (x : Looping). pick (ltb (length (a .kept .now)) loaderSize) (a .lent .now) (beginOf (a .slot) (a .channels) x (a .lent .now) .lent)) (m .mode-of .ensures) in
+    rw (le-ltb 2 (a .mode) (e .if1 .left)) (ap (λ (x : KeptCall). x .number) q, ((ap (λ (x : KeptCall). x .offset) q ∙ given _ _ _ (c .if2 .taken), ap (λ (x : KeptCall). x .length) q ∙ given _ _ _ (c .if2 .taken)), (l, b .begin-kept .ensures .1 .1)))
 
 same-length-3 : tie.Need-same-length-3
 same-length-3 c = search needs
 
-returns-4 : tie.Need-returns-4
-returns-4 c = (λ h. accepted-leaves h, λ h. accepted-leaves h, λ h. accepted-leaves h, λ h. accepted-leaves h)
+same-length-4 : tie.Need-same-length-4
+same-length-4 c = search needs
+
+returns-3 : tie.Need-returns-3
+returns-3 c =
+    let b = c .before .before .before .before .before .before in
+    let m = b .before .before .before in
+    let e = m .before in
+    let s = e .before .before .before in
+    let a = s .args in
+    let q : b .begin-kept .result ≡ _ = b .begin-kept .ensures .0 ∙ ap (λ (x : Looping). whereRoom (a .kept .now) (callOf (beginOf (a .slot) (a .channels) x (a .lent .now)))) (m .mode-of .ensures) in
+    let l = b .begin-kept .ensures .1 .0 ∙ ap (λ (x : Looping). pick (ltb (length (a .kept .now)) loaderSize) (a .lent .now) (beginOf (a .slot) (a .channels) x (a .lent .now) .lent)) (m .mode-of .ensures) in
+    rw (le-ltb 2 (a .mode) (e .if1 .left)) (ap (λ (x : KeptCall). x .number) q, ((left _ _ _ (c .if2 .left), left _ _ _ (c .if2 .left)), (l, b .begin-kept .ensures .1 .1)))
 
 pub hps-begin-spec : {M : Type 1} → statement M
 hps-begin-spec =
     tie.close
     (tie.spec
     returns
-    returns-2
     mode-of-requires
-    begin-requires
-    enum-known-reply
-    enum-told
-    put-writer-requires
+    begin-kept-requires
     same-length
-    returns-3
     same-length-2
+    returns-2
     same-length-3
-    returns-4)
+    same-length-4
+    returns-3)

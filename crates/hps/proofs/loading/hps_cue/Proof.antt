@@ -1,67 +1,39 @@
-use Rattle.hps.proofs.ExportedLaws.{accepted-leaves}
+use mathlib.Core.Path.{_≡_, refl, ap, sym, _∙_}
+use borrow.Author.Tests.{lt-ltb, le-ltb}
+use Rattle.kept_loading.specs.declared.KeptCall.{KeptCall}
+use Rattle.writer.specs.Calls.{cueOf}
+use Rattle.writer.specs.declared.CueKind.{CueKind}
+use Rattle.kept_writer.specs.KeptWriter.{writerIn}
+use Rattle.kept_loading.specs.KeptLoading.{onKept}
 use borrow.Author.Needs.{needs}
 use Rattle.hps.proofs.loading.hps_cue.Statement.{statement}
 use Rattle.hps.proofs.loading.hps_cue.Tie as tie
 use Rattle.hps.proofs.loading.hps_cue.Reads as reads
 use Rattle.hps.proofs.loading.hps_cue.Lts as lts
-use Rattle.kept_writer.proofs.loader.put_writer.Reads as put-writer-reads
-use Rattle.kept_writer.proofs.loader.writer_in.Reads as writer-in-reads
-use Rattle.kept_writer.proofs.sides.kind_of.Reads as kind-of-reads
-use Rattle.writer.proofs.cues.cue.Reads as cue-reads
+use Rattle.kept_loading.proofs.cue_kept.Reads as cue-kept-reads
+use Rattle.kept_sides.proofs.kind_of.Reads as kind-of-reads
 
 returns : tie.Need-returns
-returns c = search needs
+returns c = rw (lt-ltb 2 (c .before .before .args .kind) (c .if1 .taken)) (refl, λ _. refl)
 
-writer-in-requires : tie.Need-writer-in-requires
-writer-in-requires c κs = search needs
+kind-of-requires : tie.Need-kind-of-requires
+kind-of-requires c κs = search needs
+
+cue-kept-requires : tie.Need-cue-kept-requires
+cue-kept-requires c κs = search needs
 
 same-length : tie.Need-same-length
 same-length c = search needs
 
 returns-2 : tie.Need-returns-2
-returns-2 c = search needs
-
-kind-of-requires : tie.Need-kind-of-requires
-kind-of-requires c κs = search needs
-
-cue-requires : tie.Need-cue-requires
-cue-requires c κs = search needs
-
-enum-known-reply : tie.Need-enum-known-reply
-enum-known-reply c = search needs
-
-enum-told : tie.Need-enum-told
-enum-told c = search needs
-
-put-writer-requires : tie.Need-put-writer-requires
-put-writer-requires c κs = search needs
-
-same-length-2 : tie.Need-same-length-2
-same-length-2 c = search needs
-
-returns-3 : tie.Need-returns-3
-returns-3 c = search needs
-
-same-length-3 : tie.Need-same-length-3
-same-length-3 c = search needs
-
-returns-4 : tie.Need-returns-4
-returns-4 c = λ h. accepted-leaves h
+returns-2 c =
+    let u = c .before .before in
+    let k = u .before .before in
+    let e = k .before in
+    let a = e .before .before .args in
+    let q = u .cue-kept .ensures .0 ∙ ap (λ (x : CueKind). onKept (a .kept .now) (cueOf (writerIn (a .kept .now)) (record { start = a .start; kind = x; name = a .name }))) (k .kind-of .ensures) in
+    rw (le-ltb 2 (a .kind) (e .if1 .left)) (ap (λ (x : KeptCall). x .number) q, u .cue-kept .ensures .1)
 
 pub hps-cue-spec : {M : Type 1} → statement M
 hps-cue-spec =
-    tie.close
-    (tie.spec
-    returns
-    writer-in-requires
-    same-length
-    returns-2
-    kind-of-requires
-    cue-requires
-    enum-known-reply
-    enum-told
-    put-writer-requires
-    same-length-2
-    returns-3
-    same-length-3
-    returns-4)
+    tie.close (tie.spec returns kind-of-requires cue-kept-requires same-length returns-2)

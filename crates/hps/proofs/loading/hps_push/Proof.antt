@@ -1,26 +1,19 @@
-use mathlib.Core.Path.{refl, _∙_}
-use Rattle.hps.proofs.ExportedLaws.{accepted-leaves, push-left}
+use mathlib.Core.Path.{_≡_, refl, ap, sym, _∙_}
+use Rattle.kept_loading.specs.declared.KeptCall.{KeptCall}
+use Rattle.hps.proofs.ExportedLaws.{given, left}
+use Rattle.writer.specs.Calls.{Outcome, pushOf}
+use Rattle.writer.specs.declared.ChannelBlock.{ChannelBlock}
+use Rattle.push_due.specs.PushDue.{pushArgs}
+use Rattle.kept_sides.specs.KeptSides.{sideIn}
+use Rattle.kept_writer.specs.KeptWriter.{writerIn}
+use Rattle.kept_loading.specs.KeptLoading.{onKept, lentAfter}
 use borrow.Author.Needs.{needs}
 use Rattle.hps.proofs.loading.hps_push.Statement.{statement}
 use Rattle.hps.proofs.loading.hps_push.Tie as tie
 use Rattle.hps.proofs.loading.hps_push.Reads as reads
 use Rattle.hps.proofs.loading.hps_push.Lts as lts
-use Rattle.block_writer.proofs.push.push.Reads as push-reads
-use Rattle.kept_writer.proofs.loader.put_marks.Reads as put-marks-reads
-use Rattle.kept_writer.proofs.loader.put_sides.Reads as put-sides-reads
-use Rattle.kept_writer.proofs.loader.put_sums.Reads as put-sums-reads
-use Rattle.kept_writer.proofs.loader.put_taken.Reads as put-taken-reads
-use Rattle.kept_writer.proofs.loader.writer_in.Reads as writer-in-reads
-use Rattle.kept_writer.proofs.sides.side_in.Reads as side-in-reads
-
-writer-in-requires : tie.Need-writer-in-requires
-writer-in-requires c κs = search needs
-
-same-length : tie.Need-same-length
-same-length c = search needs
-
-returns : tie.Need-returns
-returns c = search needs
+use Rattle.kept_loading.proofs.push_kept.Reads as push-kept-reads
+use Rattle.kept_sides.proofs.side_in.Reads as side-in-reads
 
 side-in-requires : tie.Need-side-in-requires
 side-in-requires c κs = search needs
@@ -28,66 +21,55 @@ side-in-requires c κs = search needs
 side-in-requires-2 : tie.Need-side-in-requires-2
 side-in-requires-2 c κs = search needs
 
-push-requires : tie.Need-push-requires
-push-requires c κs = search needs
+push-kept-requires : tie.Need-push-kept-requires
+push-kept-requires c κs = search needs
 
-enum-known-reply : tie.Need-enum-known-reply
-enum-known-reply c = search needs
-
-enum-told : tie.Need-enum-told
-enum-told c = search needs
-
-put-taken-requires : tie.Need-put-taken-requires
-put-taken-requires c κs = search needs
-
-put-sums-requires : tie.Need-put-sums-requires
-put-sums-requires c κs = search needs
-
-put-marks-requires : tie.Need-put-marks-requires
-put-marks-requires c κs = search needs
-
-put-sides-requires : tie.Need-put-sides-requires
-put-sides-requires c κs = search needs
+same-length : tie.Need-same-length
+same-length c = search needs
 
 same-length-2 : tie.Need-same-length-2
 same-length-2 c = search needs
 
+returns : tie.Need-returns
+returns c =
+    let u = c .before .before .before .before .before .before in
+    let r = u .before .before .before in
+    let l = r .before in
+    let a = l .before .before .before .before .before .before .before .args in
+    let o : ChannelBlock → ChannelBlock → Outcome = λ x y. pushOf (writerIn (a .kept .now)) (pushArgs (a .channels) x y (a .left-data .now) (a .right-data .now) (a .last)) (a .lent .now) in
+    let both : o (l .side-in .result) (r .side-in2 .result) ≡ o (sideIn (a .left .now) 0) (sideIn (a .right .now) 0) = λ i. o (l .side-in .ensures i) (r .side-in2 .ensures i) in
+    let q = u .push-kept .ensures .0 ∙ ap (onKept (a .kept .now)) both in
+    let b = u .push-kept .ensures .1 .0 ∙ ap (lentAfter (a .kept .now) (a .lent .now)) both in
+    (ap (λ (x : KeptCall). x .number) q, (ap (λ (x : KeptCall). x .offset) q ∙ given _ _ _ (c .if1 .taken), (ap (λ (x : KeptCall). x .length) q ∙ given _ _ _ (c .if1 .taken), (b, u .push-kept .ensures .1 .1))))
+
 same-length-3 : tie.Need-same-length-3
 same-length-3 c = search needs
-
-returns-2 : tie.Need-returns-2
-returns-2 c =
-    let k = c .before .before .before .before .before .before .before .push .ensures in
-    (λ h. refl, λ h. k .1 .0 ∙ push-left _ _ _ _ _ (k .0) (c .before .reply .given .1), λ h. refl, λ h. refl)
 
 same-length-4 : tie.Need-same-length-4
 same-length-4 c = search needs
 
-same-length-5 : tie.Need-same-length-5
-same-length-5 c = search needs
-
-returns-3 : tie.Need-returns-3
-returns-3 c = (λ h. accepted-leaves h, λ h. accepted-leaves h, λ h. accepted-leaves h, λ h. accepted-leaves h)
+returns-2 : tie.Need-returns-2
+returns-2 c =
+    let u = c .before .before .before .before .before .before in
+    let r = u .before .before .before in
+    let l = r .before in
+    let a = l .before .before .before .before .before .before .before .args in
+    let o : ChannelBlock → ChannelBlock → Outcome = λ x y. pushOf (writerIn (a .kept .now)) (pushArgs (a .channels) x y (a .left-data .now) (a .right-data .now) (a .last)) (a .lent .now) in
+    let both : o (l .side-in .result) (r .side-in2 .result) ≡ o (sideIn (a .left .now) 0) (sideIn (a .right .now) 0) = λ i. o (l .side-in .ensures i) (r .side-in2 .ensures i) in
+    let q = u .push-kept .ensures .0 ∙ ap (onKept (a .kept .now)) both in
+    let b = u .push-kept .ensures .1 .0 ∙ ap (lentAfter (a .kept .now) (a .lent .now)) both in
+    (ap (λ (x : KeptCall). x .number) q, (left _ _ _ (c .if1 .left), (left _ _ _ (c .if1 .left), (b, u .push-kept .ensures .1 .1))))
 
 pub hps-push-spec : {M : Type 1} → statement M
 hps-push-spec =
     tie.close
     (tie.spec
-    writer-in-requires
-    same-length
-    returns
     side-in-requires
     side-in-requires-2
-    push-requires
-    enum-known-reply
-    enum-told
-    put-taken-requires
-    put-sums-requires
-    put-marks-requires
-    put-sides-requires
+    push-kept-requires
+    same-length
     same-length-2
+    returns
     same-length-3
-    returns-2
     same-length-4
-    same-length-5
-    returns-3)
+    returns-2)

@@ -1,4 +1,3 @@
-use borrow.Author.Needs.{needs}
 use Rattle.hps.proofs.ExportedLaws.{listed}
 use Rattle.hps.proofs.reading.hps_listing.Statement.{statement}
 use Rattle.hps.proofs.reading.hps_listing.Tie as tie
@@ -8,16 +7,16 @@ use Rattle.listing.proofs.listing.fill.Reads as fill-reads
 use Rattle.listing.proofs.listing.start_listing.Reads as start-listing-reads
 
 start-listing-requires : tie.Need-start-listing-requires
-start-listing-requires c κs = search needs
+start-listing-requires c κs = tt
 
 fill-requires : tie.Need-fill-requires
-fill-requires c κs = search needs
+fill-requires c κs = c .before .before .start-listing .ensures .1
 
 same-length : tie.Need-same-length
-same-length c = search needs
+same-length c = c .before .out .given
 
 returns : tie.Need-returns
-returns c = search (listed, needs)
+returns c = listed (c .before .before .fill .ensures) (c .before .before .before .before .before .start-listing .ensures .0)
 
 pub hps-listing-spec : {M : Type 1} → statement M
 hps-listing-spec = tie.close (tie.spec start-listing-requires fill-requires same-length returns)

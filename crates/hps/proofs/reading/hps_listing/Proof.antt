@@ -1,3 +1,4 @@
+use borrow.Author.Needs.{needs}
 use Rattle.hps.proofs.ExportedLaws.{listed}
 use Rattle.hps.proofs.reading.hps_listing.Statement.{statement}
 use Rattle.hps.proofs.reading.hps_listing.Tie as tie
@@ -13,10 +14,10 @@ fill-requires : tie.Need-fill-requires
 fill-requires c κs = c .before .before .start-listing .ensures .1
 
 same-length : tie.Need-same-length
-same-length c = c .before .out .given
+same-length c = search needs
 
 returns : tie.Need-returns
-returns c = listed (c .before .before .fill .ensures) (c .before .before .before .before .before .start-listing .ensures .0)
+returns c = search (listed, needs)
 
 pub hps-listing-spec : {M : Type 1} → statement M
 hps-listing-spec = tie.close (tie.spec start-listing-requires fill-requires same-length returns)

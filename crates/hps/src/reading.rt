@@ -1,4 +1,5 @@
-// The reading calls and the listing. A call gives 0, a refusal's number, END or NO_RECORD; only with 0 are the numbers that it gives set.
+// The reading calls and the listing. A call gives 0, a refusal's number, END or NO_RECORD; only with 0 are the numbers that it gives set, but for the position of
+// a block read (also with 1) and what cue calls give (also with 1 and END).
 use crate::END;
 use crate::NO_RECORD;
 use block_reader::blocks::BlockReply;

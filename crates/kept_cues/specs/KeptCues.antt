@@ -1,14 +1,16 @@
 -- Cue calls one after the other on a kept record: the cursor in bytes, the bytes of a cue, and what as many calls as there is room for give.
-use Prim.Native.Nat.{ℕ, zero, suc, _+_, _/_}
+use Prim.Native.Nat.{ℕ, zero, suc, _+_, _/_, _^_, _≤_, _<_}
+use mathlib.Core.Path.{_≡_}
+use mathlib.Core.Bool.{true}
 use mathlib.Core.List.{List, [], _++_}
-use lib.ListN.{length}
+use lib.ListN.{length, replicate}
 use lib.Dec.{ltb, eqb}
 use Rattle.layout.specs.Choice.{pick, _and_}
 use Rattle.layout.specs.Puts.{putAt}
 use Rattle.layout.specs.Records.{be32}
 use Rattle.reader.specs.declared.HpsReader.{HpsReader}
 use Rattle.reader.specs.declared.CueIterator.{CueIterator}
-use Rattle.reader.specs.CuesReadBack.{CueAnswer, cursor, firstCursor, cueStep}
+use Rattle.reader.specs.CuesReadBack.{CueAnswer, cursor, looped, firstCursor, cueStep}
 use Rattle.cue_reader.specs.declared.CueReply.{CueReply}
 use Rattle.kept_reader.specs.KeptReader.{wordAt, longAt, be64, putLong, readerIn}
 use Rattle.kept_cues.specs.declared.CuesFilled.{CuesFilled}
@@ -26,6 +28,18 @@ cursorBytes c = be64 (c .block) ++ be64 (c .place) ++ be64 (c .base) ++ be32 (pi
 -- A cursor put number by number, each where it fits.
 unfoldable pub putCursor : List ℕ → CueIterator → List ℕ
 putCursor bs c = putAt (putLong (putLong (putLong bs 0 (c .block)) 8 (c .place)) 16 (c .base)) 24 (be32 (pick (c .due) 0 1))
+
+-- What a cursor on a record can hold: three numbers of 64 bits; the Loop is due only where the record has one.
+pub record CursorFits (r : HpsReader) (c : CueIterator) : Type 0 where
+  pub block : c .block < 2 ^ 64
+  pub place : c .place < 2 ^ 64
+  pub base : c .base < 2 ^ 64
+  pub due : c .due ≡ true → looped (r .«loop_start») ≡ true
+
+-- 32 zeros are the first cursor, and the bytes that are put for a cursor stand for it.
+pub record CursorBack : Type 0 where
+  pub zeros : (r : HpsReader) → cursorIn r (replicate 32 0) ≡ firstCursor r
+  pub back : (r : HpsReader) (bs : List ℕ) (c : CueIterator) → CursorFits r c → 28 ≤ length bs → cursorIn r (putAt bs 0 (cursorBytes c)) ≡ c
 
 -- ---- A cue in bytes
 

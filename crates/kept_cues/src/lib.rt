@@ -21,7 +21,7 @@ ghost use Rattle.layout.specs.Puts.{putAt};
 ghost use Rattle.reader.specs.declared.HpsReader.{HpsReader};
 ghost use Rattle.reader.specs.CuesReadBack.{cursor};
 ghost use Rattle.cue_reader.specs.CueAnswers.{PartsOf};
-ghost use Rattle.kept_cues.specs.KeptCues.{cursorIn, putCursor, putCue, replyNumber, replyPut, filledOf, cuesFrom, givenOf, CuesLent, cuesNumber, cuesLent};
+ghost use Rattle.kept_cues.specs.KeptCues.{cursorIn, CursorBack, putCursor, putCue, replyNumber, replyPut, filledOf, cuesFrom, givenOf, CuesLent, cuesNumber, cuesLent};
 
 const CURSOR_SIZE: usize = 32;
 
@@ -58,6 +58,11 @@ fn put_cursor(cursor: &mut [u8], c: CueIterator)
         put_u32(cursor, 24, 1);
     }
 }
+
+// What put_cursor puts, cursor_in reads back; zeros are the first cursor.
+pub fn cursor_back()
+    ensures { λ _. ⌜ CursorBack ⌝ }
+{}
 
 // A cue in 16 bytes: its start, 0 for a point or 1 for the loop, and its name.
 fn put_cue(out: &mut [u8], at: usize, start: u64, kind: u32, name: u32)

@@ -21,7 +21,7 @@ returns c =
     short-cursor _ _ (record { cursor = now (a .cursor); out = now (a .out); cues = now (a .cues) }) (c .if1 .taken)
 
 reader-in-requires : tie.Need-reader-in-requires
-reader-in-requires c κs = search needs
+reader-in-requires c κs = tt
 
 returns-2 : tie.Need-returns-2
 returns-2 c =
@@ -29,7 +29,7 @@ returns-2 c =
     no-record _ _ (record { cursor = now (a .cursor); out = now (a .out); cues = now (a .cues) }) (c .before .before .if1 .left) _ (c .before .reader-in .ensures .0) (c .if2 .taken)
 
 cursor-in-requires : tie.Need-cursor-in-requires
-cursor-in-requires c κs = search needs
+cursor-in-requires c κs = tt
 
 element-copy-out-left : tie.Need-element-copy-out-left
 element-copy-out-left c = search needs
@@ -41,13 +41,13 @@ fill-cues-requires : tie.Need-fill-cues-requires
 fill-cues-requires c κs = table-long _ _ (c .before .before .before .before .before .before .before .reader-in .ensures .0)
 
 put-cursor-requires : tie.Need-put-cursor-requires
-put-cursor-requires c κs = search needs
+put-cursor-requires c κs = tt
 
 same-length : tie.Need-same-length
-same-length c = search needs
+same-length c = c .before .cursor .given
 
 same-length-2 : tie.Need-same-length-2
-same-length-2 c = search needs
+same-length-2 c = c .before .before .before .before .before .before .out .given
 
 returns-3 : tie.Need-returns-3
 returns-3 c =

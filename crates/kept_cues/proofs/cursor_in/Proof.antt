@@ -1,5 +1,5 @@
 use Rattle.kept_cues.proofs.CueBytesLaws.{cursor-read}
-use borrow.Author.Needs.{needs}
+use native.Mathlib.Omega.{arith}
 use Rattle.kept_cues.proofs.cursor_in.Statement.{statement}
 use Rattle.kept_cues.proofs.cursor_in.Tie as tie
 use Rattle.kept_cues.proofs.cursor_in.Reads as reads
@@ -9,19 +9,19 @@ use Rattle.kept_reader.proofs.fields.long.Reads as long-reads
 use Rattle.kept_reader.proofs.fields.word.Reads as word-reads
 
 first-cursor-requires : tie.Need-first-cursor-requires
-first-cursor-requires c κs = search needs
+first-cursor-requires c κs = tt
 
 long-requires : tie.Need-long-requires
-long-requires c κs = search needs
+long-requires c κs = omega arith
 
 long-requires-2 : tie.Need-long-requires-2
-long-requires-2 c κs = search needs
+long-requires-2 c κs = omega arith
 
 long-requires-3 : tie.Need-long-requires-3
-long-requires-3 c κs = search needs
+long-requires-3 c κs = omega arith
 
 word-requires : tie.Need-word-requires
-word-requires c κs = search needs
+word-requires c κs = tt
 
 returns : tie.Need-returns
 returns c = cursor-read _ _ (c .before .before .before .before .before .first-cursor .ensures) (c .before .before .before .before .long .ensures) (c .before .before .before .long2 .ensures) (c .before .before .long3 .ensures) (c .before .word .ensures)

@@ -1,3 +1,4 @@
+use mathlib.Core.Path.{_∙_}
 use Prim.Native.Nat.{_-_}
 use native.Mathlib.Omega.{arith}
 use lib.ListN.{length}
@@ -29,16 +30,16 @@ sub-loop : tie.Need-sub-loop Inv-loop μ-loop
 sub-loop c = omega (arith, c .loop .inv .0 .same, c .loop .inv .0 .fits)
 
 cue-from-requires : tie.Need-cue-from-requires Inv-loop μ-loop
-cue-from-requires c κs = search needs
+cue-from-requires c κs = c .before .before .before .before .before .pre
 
 put-reply-requires : tie.Need-put-reply-requires Inv-loop μ-loop
-put-reply-requires c κs = search needs
+put-reply-requires c κs = omega arith
 
 filled-requires : tie.Need-filled-requires Inv-loop μ-loop
-filled-requires c κs = search needs
+filled-requires c κs = tt
 
 same-length : tie.Need-same-length Inv-loop μ-loop
-same-length c = search needs
+same-length c = c .before .before .before .out .given ∙ c .before .before .before .before .before .before .before .before .before .loop .inv .0 .same
 
 returns : tie.Need-returns Inv-loop μ-loop
 returns c =
@@ -58,13 +59,13 @@ loop-less c = search needs
 loop-again : tie.Need-loop-again Inv-loop μ-loop
 loop-again c =
     let i = c .before .before .before .before .before .before .before .before .loop .inv in
-    all-more _ _ _ _ _ _ _ _ _ _ _ (i .0) (i .1) (c .before .before .before .before .before .before .before .loop-test .taken) _ (c .before .before .before .before .before .before .cue-from .ensures) (c .before .before .before .put-reply .ensures .0) (c .before .before .before .put-reply .ensures .1) (c .if1 .left) (search needs)
+    all-more _ _ _ _ _ _ _ _ _ _ _ (i .0) (i .1) (c .before .before .before .before .before .before .before .loop-test .taken) _ (c .before .before .before .before .before .before .cue-from .ensures) (c .before .before .before .put-reply .ensures .0) (c .before .before .before .put-reply .ensures .1) (c .if1 .left) (c .before .before .out .given)
 
 filled-requires-2 : tie.Need-filled-requires-2 Inv-loop μ-loop
-filled-requires-2 c κs = search needs
+filled-requires-2 c κs = tt
 
 same-length-2 : tie.Need-same-length-2 Inv-loop μ-loop
-same-length-2 c = search needs
+same-length-2 c = c .before .before .loop .inv .0 .same
 
 returns-2 : tie.Need-returns-2 Inv-loop μ-loop
 returns-2 c =

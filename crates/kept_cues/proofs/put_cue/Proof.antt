@@ -1,3 +1,4 @@
+use mathlib.Core.Path.{_∙_}
 use Rattle.kept_cues.proofs.CueBytesLaws.{three-put}
 use borrow.Author.Needs.{needs}
 use Rattle.kept_cues.proofs.put_cue.Statement.{statement}
@@ -14,16 +15,16 @@ add-put-u32 : tie.Need-add-put-u32
 add-put-u32 c = search needs
 
 put-u32-requires : tie.Need-put-u32-requires
-put-u32-requires c κs = search needs
+put-u32-requires c κs = tt
 
 add-put-u32-2 : tie.Need-add-put-u32-2
 add-put-u32-2 c = search needs
 
 put-u32-requires-2 : tie.Need-put-u32-requires-2
-put-u32-requires-2 c κs = search needs
+put-u32-requires-2 c κs = tt
 
 same-length : tie.Need-same-length
-same-length c = search needs
+same-length c = c .before .out3 .given ∙ c .before .before .before .before .before .out2 .given ∙ c .before .before .before .before .before .before .before .before .before .out .given
 
 returns : tie.Need-returns
 returns c = three-put _ _ _ _ _ (c .before .before .before .before .before .before .before .before .before .before .put-long .ensures) (c .before .before .before .before .before .before .put-u32 .ensures) (c .before .before .put-u322 .ensures)

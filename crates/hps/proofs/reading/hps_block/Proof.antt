@@ -3,6 +3,7 @@ use mir.ValLaws.{toZ-ofZ}
 use Rattle.reader.specs.OpeningAndReading.{blockRead}
 use Rattle.kept_reader.specs.KeptReader.{readerIn}
 use denote.Ref.{now}
+use Rattle.hps.specs.Exported.{BlockLent}
 use Rattle.hps.proofs.KeptCalls.{without, with-it, whole-block, block-without, block-refused, block-ended, block-given}
 use borrow.Author.Needs.{needs}
 use Rattle.hps.proofs.reading.hps_block.Statement.{statement}
@@ -14,27 +15,30 @@ use Rattle.hps.proofs.reading.past.Reads as past-reads
 use Rattle.kept_reader.proofs.opened.reader_in.Reads as reader-in-reads
 
 past-requires : tie.Need-past-requires
-past-requires c κs = search needs
+past-requires c κs = tt
 
 reader-in-requires : tie.Need-reader-in-requires
-reader-in-requires c κs = search needs
+reader-in-requires c κs = tt
 
 returns : tie.Need-returns
 returns c =
+    let a = c .before .before .before .before .before .before .before .args in
     let e = c .before .before .reader-in .ensures .0 in
-    (without _ _ _ _ e _ (c .if1 .taken), block-without _ _ _ _ _ _ (c .before .before .before .past .ensures) e _ (c .if1 .taken))
+    let b : BlockLent =
+    record { position = now (a .position); start = now (a .start); end = now (a .end); addresses = now (a .length); scale = now (a .context); last = now (a .last); oldest = now (a .oldest) } in
+    (without _ _ _ _ e _ (c .if1 .taken), block-without (now (a .slot)) (now (a .kept)) (a .channel) (now (a .position)) _ _ (c .before .before .before .past .ensures) e b (c .if1 .taken))
 
 read-block-requires : tie.Need-read-block-requires
-read-block-requires c κs = search needs
+read-block-requires c κs = c .before .before .reader-in .ensures .1
 
 enum-known-reply : tie.Need-enum-known-reply
-enum-known-reply c = search needs
+enum-known-reply c = c .match .keys1
 
 enum-told : tie.Need-enum-told
-enum-told c = search needs
+enum-told c = c .match .keys2
 
 enum-told-2 : tie.Need-enum-told-2
-enum-told-2 c = search needs
+enum-told-2 c = c .match .keys3
 
 returns-2 : tie.Need-returns-2
 returns-2 c =

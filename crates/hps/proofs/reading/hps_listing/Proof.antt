@@ -8,10 +8,10 @@ use Rattle.listing.proofs.listing.fill.Reads as fill-reads
 use Rattle.listing.proofs.listing.start_listing.Reads as start-listing-reads
 
 start-listing-requires : tie.Need-start-listing-requires
-start-listing-requires c κs = search needs
+start-listing-requires c κs = tt
 
 fill-requires : tie.Need-fill-requires
-fill-requires c κs = search needs
+fill-requires c κs = c .before .before .start-listing .ensures .1
 
 same-length : tie.Need-same-length
 same-length c = search needs

@@ -1,5 +1,5 @@
 use denote.Ref.{now}
-use borrow.Author.Needs.{needs}
+use Rattle.reader.specs.OpeningAndReading.{opening}
 use Rattle.hps.proofs.ExportedLaws.{no-room, no-room-kept, open-refused, open-left, open-opened, open-kept}
 use Rattle.kept_reader.proofs.ReadBackLaws.{opened-long}
 use Rattle.listing.proofs.StartLaws.{call-refused, call-opened}
@@ -11,16 +11,19 @@ use Rattle.kept_reader.proofs.opened.put_opened.Reads as put-opened-reads
 use Rattle.reader.proofs.opening.open.Reads as open-reads
 
 returns : tie.Need-returns
-returns c = search (no-room, no-room-kept, needs)
+returns c =
+    let s = now (c .before .before .before .args .slot) in
+    let k = now (c .before .before .before .args .kept) in
+    (no-room k s (opening s) (c .if1 .taken), no-room-kept k s (opening s) (c .if1 .taken))
 
 open-requires : tie.Need-open-requires
-open-requires c κs = search needs
+open-requires c κs = tt
 
 enum-known-reply : tie.Need-enum-known-reply
-enum-known-reply c = search needs
+enum-known-reply c = c .match .keys1
 
 enum-told : tie.Need-enum-told
-enum-told c = search needs
+enum-told c = c .match .keys2
 
 put-opened-requires : tie.Need-put-opened-requires
 put-opened-requires c κs = (c .before .before .before .before .open .ensures .1, (opened-long _ _ (call-opened _ _ (c .before .before .before .before .open .ensures .0) (c .before .enum-told .given .1)), c .before .before .before .before .before .if1 .left))
@@ -33,7 +36,7 @@ returns-2 c =
     (open-refused k s _ _ e (c .before .before .before .before .before .if1 .left), open-left k s _ _ e)
 
 same-length : tie.Need-same-length
-same-length c = search needs
+same-length c = c .before .kept .given
 
 returns-3 : tie.Need-returns-3
 returns-3 c =

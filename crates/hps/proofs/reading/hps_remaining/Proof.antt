@@ -2,7 +2,6 @@ use denote.Ref.{now}
 use Rattle.reader.specs.OpeningAndReading.{dataRemaining}
 use Rattle.kept_reader.specs.KeptReader.{readerIn}
 use Rattle.hps.proofs.KeptCalls.{without, with-it, whole-sum, sum-without, sum-refused, sum-given}
-use borrow.Author.Needs.{needs}
 use Rattle.hps.proofs.reading.hps_remaining.Statement.{statement}
 use Rattle.hps.proofs.reading.hps_remaining.Tie as tie
 use Rattle.hps.proofs.reading.hps_remaining.Reads as reads
@@ -11,7 +10,7 @@ use Rattle.block_reader.proofs.blocks.data_remaining.Reads as data-remaining-re
 use Rattle.kept_reader.proofs.opened.reader_in.Reads as reader-in-reads
 
 reader-in-requires : tie.Need-reader-in-requires
-reader-in-requires c κs = search needs
+reader-in-requires c κs = tt
 
 returns : tie.Need-returns
 returns c =
@@ -19,13 +18,13 @@ returns c =
     (without _ _ _ _ e _ (c .if1 .taken), sum-without _ _ _ _ e _ (c .if1 .taken))
 
 data-remaining-requires : tie.Need-data-remaining-requires
-data-remaining-requires c κs = search needs
+data-remaining-requires c κs = c .before .before .reader-in .ensures .1
 
 enum-known-number : tie.Need-enum-known-number
-enum-known-number c = search needs
+enum-known-number c = c .match .keys1
 
 enum-known-n : tie.Need-enum-known-n
-enum-known-n c = search needs
+enum-known-n c = c .match .keys2
 
 returns-2 : tie.Need-returns-2
 returns-2 c =

@@ -3,5 +3,5 @@ pub mod telling; // telling.rt: lines of numbers
 pub mod noted; // noted.rt: writes noted for later
 pub mod pushing; // pushing.rt: the push whose CHAN lines are being read
 pub mod made; // made.rt: the calls
-pub mod answered; // answered.rt: what is told and noted of a call
+pub mod answered; // answered.rt: what is told of a call
 pub mod loading; // loading.rt: a script's lines one after the other

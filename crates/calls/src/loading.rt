@@ -25,7 +25,7 @@ use writer::HpsWriter;
 use writer::Looping;
 use writer::begin;
 ghost use Prim.Native.Nat.{_≤_, _<_};
-ghost use Rattle.calls.specs.Underway.{After, Underway};
+ghost use Rattle.calls.specs.Underway.{After, Listed, Underway};
 
 // A lent buffer of 65,536 bytes is long enough for any call: a longer block gets 24 first.
 pub const LENT: usize = 65536;
@@ -55,19 +55,17 @@ fn next_call(v: Voice) -> Voice {
     }
 }
 
-// The loading after a call: what it answers is told, and its writes are noted.
-fn after_call(st: Loading, kind: Kind, m: Made, lent: &[u8; LENT], kept: &mut [u8]) -> Loading
-    requires { ⌜ Underway st × After m ⌝ }
+// What a call answers is told; the loading after it.
+fn after_call(st: Loading, kind: Kind, m: Made, noted: Noted) -> Loading
+    requires { ⌜ After m × Listed noted ⌝ }
     ensures { λ q. ⌜ Underway q ⌝ }
 {
     let writer = m.writer;
     let reply = m.reply;
     let places = m.places;
-    let before = st.noted;
     let v = st.voice;
     let refused = begin_refused(kind, reply);
     tell_call(told_as(v, refused), kind, reply, places, m.many);
-    let noted = note(before, places, m.many, part(lent, 0, m.bytes), kept);
     Loading {
         writer,
         refused,
@@ -77,17 +75,35 @@ fn after_call(st: Loading, kind: Kind, m: Made, lent: &[u8; LENT], kept: &mut [u
     }
 }
 
-// A line's call, with the lent buffer that it gets.
+// A call's writes are noted: their bytes are the first ones of the lent buffer.
+fn note_call(j: Noted, m: Made, lent: &[u8; LENT], kept: &mut [u8]) -> Noted
+    requires { ⌜ Listed j × After m ⌝ }
+    ensures { λ q. ⌜ Listed q ⌝ }
+{
+    let places = m.places;
+    note(j, places, m.many, part(lent, 0, m.bytes), kept)
+}
+
+// A line's call, with the part of the lent buffer that it gets.
+fn make_line(s: &[u8], w: Words, kind: Kind, slot: usize, st: Loading, lent: &mut [u8]) -> Made
+    requires { ⌜ Underway st ⌝ }
+    ensures { λ q. ⌜ After q ⌝ }
+{
+    let n = least(st.lent, lent.len());
+    let writer = st.writer;
+    let p = st.pushing;
+    make(s, w, kind, slot, writer, p, &mut lent[..n])
+}
+
 fn call_line(s: &[u8], w: Words, kind: Kind, slot: usize, st: Loading, kept: &mut [u8]) -> Loading
     requires { ⌜ Underway st ⌝ }
     ensures { λ q. ⌜ Underway q ⌝ }
 {
-    let writer = st.writer;
-    let p = st.pushing;
     let mut lent = large_buffer();
-    let n = least(st.lent, LENT);
-    let m = make(s, w, kind, slot, writer, p, &mut lent[..n]);
-    after_call(st, kind, m, &lent, kept)
+    let m = make_line(s, w, kind, slot, st, &mut lent);
+    let before = st.noted;
+    let noted = note_call(before, m, &lent, kept);
+    after_call(st, kind, m, noted)
 }
 
 // The lent buffer's length after a line: LENT sets it.
@@ -98,20 +114,27 @@ fn lent_after(s: &[u8], w: Words, kind: Kind, lent: usize) -> usize {
     lent
 }
 
+// What a line says beside its call.
+fn read_line(s: &[u8], w: Words, kind: Kind, st: Loading) -> Loading
+    requires { ⌜ Underway st ⌝ }
+    ensures { λ q. ⌜ Underway q ⌝ }
+{
+    let before = st.pushing;
+    Loading {
+        lent: lent_after(s, w, kind, st.lent),
+        pushing: after_line(s, w, kind, before),
+        ..st
+    }
+}
+
 fn load_line(s: &[u8], w: Words, st: Loading, slot: usize, kept: &mut [u8]) -> Loading
     requires { ⌜ Underway st ⌝ }
     ensures { λ q. ⌜ Underway q ⌝ }
 {
     let kind = kind_of(s, w);
-    let before = st.pushing;
-    let pushing = after_line(s, w, kind, before);
-    let lent = lent_after(s, w, kind, st.lent);
-    let next = Loading {
-        lent,
-        pushing,
-        ..st
-    };
-    if makes_call(kind, pushing) {
+    let next = read_line(s, w, kind, st);
+    let p = next.pushing;
+    if makes_call(kind, p) {
         return call_line(s, w, kind, slot, next, kept);
     }
     next

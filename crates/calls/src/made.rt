@@ -38,7 +38,7 @@ pub struct Made {
 }
 
 // This number of an accepted call, 0 of a refused one.
-pub(crate) fn accepted(reply: Reply, n: usize) -> usize
+fn accepted(reply: Reply, n: usize) -> usize
     ensures { λ r. ⌜ r ≤ n ⌝ }
 {
     match reply {

@@ -23,30 +23,23 @@ fn reply(blocks: u32, length: usize, channels: usize, p: u32) -> EstimateReply {
     }
 }
 
+fn is_reply(reply: EstimateReply, due: u32, length: u64) -> bool {
+    match reply {
+        EstimateReply::Refused(n) => n == due,
+        EstimateReply::Length(n) => (due == 0) & (n == length),
+    }
+}
+
 // 0: the number of the refusal, or 0; 4 blocks, 8 length, 12 channels, 16 p; 20 the estimate, high half first.
 pub(crate) fn estimate_case(body: &[u8]) -> usize {
-    let due = number(body, 0);
     let reply = reply(
         number(body, 4),
         size(body, 8),
         size(body, 12),
         number(body, 16),
     );
-    match reply {
-        EstimateReply::Refused(n) => {
-            if n != due {
-                return 1;
-            }
-            0
-        }
-        EstimateReply::Length(n) => {
-            if due != 0 {
-                return 1;
-            }
-            if n != long(body, 20) {
-                return 1;
-            }
-            0
-        }
+    if is_reply(reply, number(body, 0), long(body, 20)) {
+        return 0;
     }
+    1
 }

@@ -21,6 +21,8 @@ use stored::part;
 use stored::signed;
 use stored::size;
 ghost use Prim.Native.Nat.{_<_};
+ghost use mathlib.Core.Path.{_≡_};
+ghost use lib.ListN.{length};
 ghost use Rattle.reader.specs.OpeningAndReading.{Readable};
 
 // A listing has fewer than 5,000,000 bytes, and each turn compares 65,000 or the rest.
@@ -70,13 +72,9 @@ fn is_format(format: DspFormat, n: u32) -> bool {
 fn is_context(context: FrameContext, want: &[u8], at: usize) -> bool
     requires { ⌜ at < 512 ⌝ }
 {
-    if context.predictor_and_scale != half(want, at) {
-        return false;
-    }
-    if context.last != signed(want, at + 2) {
-        return false;
-    }
-    context.oldest == signed(want, at + 4)
+    (context.predictor_and_scale == half(want, at))
+        & (context.last == signed(want, at + 2))
+        & (context.oldest == signed(want, at + 4))
 }
 
 // 40 bytes: coefficients, gain and context.
@@ -94,10 +92,7 @@ fn is_info(
             return false;
         }
     }
-    if gain != half(want, at + 32) {
-        return false;
-    }
-    is_context(context, want, at + 34)
+    (gain == half(want, at + 32)) & is_context(context, want, at + 34)
 }
 
 // 0 looping, 4 format, 8, 12 and 16 the loop, end and current address, 20 the rest.
@@ -105,37 +100,22 @@ fn is_channel(c: Channel, want: &[u8]) -> bool {
     if want.len() != CHANNEL {
         return false;
     }
-    if c.looping != (number(want, 0) == 1) {
-        return false;
-    }
     let format = c.format;
-    if !is_format(format, number(want, 4)) {
-        return false;
-    }
-    if c.loop_address != number(want, 8) {
-        return false;
-    }
-    if c.end_address != number(want, 12) {
-        return false;
-    }
-    if c.current_address != number(want, 16) {
-        return false;
-    }
     let coefficients = c.coefficients;
     let context = c.context;
-    is_info(coefficients, c.gain, context, want, 20)
+    (c.looping == (number(want, 0) == 1))
+        & is_format(format, number(want, 4))
+        & (c.loop_address == number(want, 8))
+        & (c.end_address == number(want, 12))
+        & (c.current_address == number(want, 16))
+        & is_info(coefficients, c.gain, context, want, 20)
 }
 
 // 0 the number of the refusal, or 0; 4 the addresses.
 fn is_remaining(reply: RemainingReply, want: &[u8]) -> bool {
     match reply {
         RemainingReply::Refused(n) => n == number(want, 0),
-        RemainingReply::Addresses(n) => {
-            if number(want, 0) != 0 {
-                return false;
-            }
-            n == long(want, 4)
-        }
+        RemainingReply::Addresses(n) => (number(want, 0) == 0) & (n == long(want, 4)),
     }
 }
 
@@ -153,25 +133,15 @@ fn is_block(q: BlockCall, position: usize, want: &[u8]) -> bool
     requires { ⌜ position < 4294967296 ⌝ }
 {
     let reply = q.reply;
-    if !is_block_reply(reply, want) {
-        return false;
-    }
-    if q.position != position + size(want, 16) {
-        return false;
-    }
-    if q.rate != number(want, 20) {
-        return false;
-    }
     let format = q.format;
-    if !is_format(format, number(want, 24)) {
-        return false;
-    }
-    if q.length != long(want, 28) {
-        return false;
-    }
     let coefficients = q.coefficients;
     let context = q.context;
-    is_info(coefficients, q.gain, context, want, 36)
+    is_block_reply(reply, want)
+        & (q.position == position + size(want, 16))
+        & (q.rate == number(want, 20))
+        & is_format(format, number(want, 24))
+        & (q.length == long(want, 28))
+        & is_info(coefficients, q.gain, context, want, 36)
 }
 
 // The addresses remaining and the block read, with its data.
@@ -189,14 +159,10 @@ fn is_answer(
         return false;
     }
     let left = data_remaining(s, r, position);
-    if !is_remaining(left, want) {
-        return false;
-    }
     let q = read_block(s, r, channel, position);
-    if !is_block(q, position, want) {
-        return false;
-    }
-    same(block_data(s, r, channel, position), data)
+    is_remaining(left, want)
+        & is_block(q, position, want)
+        & same(block_data(s, r, channel, position), data)
 }
 
 // From an offset of the body on: channel, position, the answer, how many bytes of data and the data, again and again.
@@ -230,19 +196,24 @@ fn other_read(s: &[u8], body: &[u8], at: usize) -> usize
     }
     let r = start_listing(s).reader;
     let channels = r.channels;
-    if !is_channel(channels[0], part(body, at, CHANNEL)) {
-        return 2;
+    let good = is_channel(channels[0], part(body, at, CHANNEL))
+        & is_channel(channels[1], part(body, at + CHANNEL, CHANNEL));
+    if good {
+        return other_answer(s, r, body, at + 2 * CHANNEL);
     }
-    if !is_channel(channels[1], part(body, at + CHANNEL, CHANNEL)) {
-        return 2;
-    }
-    other_answer(s, r, body, at + 2 * CHANNEL)
+    2
+}
+
+fn whole_slot() -> [u8; LONGEST]
+    ensures { λ r. ⌜ 65537 ≡ length r ⌝ }
+{
+    [0; LONGEST]
 }
 
 // 0 the slot's length, 4 how many bytes of it are here, the others being 0, 8 these bytes; then the length of its listing and the listing; then what is read.
 // Gives 0, 1 if the listing is another, 2 if a channel is, and 3 and the number of the first answer that is.
 pub(crate) fn slot_case(body: &[u8]) -> usize {
-    let mut whole = [0u8; LONGEST];
+    let mut whole = whole_slot();
     let n = size(body, 4);
     put_bytes(&mut whole, 0, part(body, 8, n));
     let slot = part(&whole, 0, size(body, 0));

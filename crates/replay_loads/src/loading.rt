@@ -13,11 +13,14 @@ use stored::number;
 use stored::part;
 use stored::signed;
 use stored::size;
+use writer::Called;
 use writer::ChannelBlock;
 use writer::Cue;
 use writer::CueKind;
+use writer::Finished;
 use writer::HpsWriter;
 use writer::Looping;
+use writer::Place;
 use writer::begin;
 use writer::cues::cue;
 ghost use Prim.Native.Nat.{_<_, _≤_};
@@ -54,16 +57,24 @@ fn kind(n: u32, length: u64) -> CueKind {
     }
 }
 
-// What a push says of a channel.
-fn side(s: &[u8], at: usize) -> ChannelBlock
-    requires { ⌜ at < 8589934592 ⌝ }
+// The 16 coefficients from here on.
+fn coefficients_at(s: &[u8], at: usize) -> [i16; 16]
+    requires { ⌜ at < 8589934600 ⌝ }
 {
     let mut coefficients = [0i16; 16];
     let mut i: usize = 0;
     while i < 16 {
-        coefficients[i] = signed(s, at + 8 + 2 * i);
+        coefficients[i] = signed(s, at + 2 * i);
         i += 1;
     }
+    coefficients
+}
+
+// What a push says of a channel.
+fn side(s: &[u8], at: usize) -> ChannelBlock
+    requires { ⌜ at < 8589934592 ⌝ }
+{
+    let coefficients = coefficients_at(s, at + 8);
     let context = FrameContext {
         predictor_and_scale: half(s, at + 42),
         last: signed(s, at + 44),
@@ -78,19 +89,29 @@ fn side(s: &[u8], at: usize) -> ChannelBlock
     }
 }
 
-// Begin on the slot as it stands.
-fn load_begin(step: &[u8], n: usize, slot: &mut [u8], lent: &mut [u8], due: u32) -> Left
+// Begin or push, as finish returns: with its write as each of three.
+fn with_one(call: Called) -> Finished
+    requires { ⌜ Good (call .writer) ⌝ }
     ensures { λ q. ⌜ Good (q .writer) ⌝ }
 {
-    let call = begin(n, size(step, 12), mode(number(step, 16)), lent);
     let reply = call.reply;
     let place = call.place;
     let writer = call.writer;
-    let good = is_carried(slot, n, reply, due, place, lent);
-    Left { writer, good }
+    Finished {
+        reply,
+        places: [place; 3],
+        writer,
+    }
 }
 
-fn load_cue(step: &[u8], w: HpsWriter, due: u32) -> Left
+// Begin on the slot as it stands.
+fn make_begin(step: &[u8], lent: &mut [u8]) -> Finished
+    ensures { λ q. ⌜ Good (q .writer) ⌝ }
+{
+    with_one(begin(size(step, 8), size(step, 12), mode(number(step, 16)), lent))
+}
+
+fn make_cue(step: &[u8], w: HpsWriter) -> Finished
     requires { ⌜ Good w ⌝ }
     ensures { λ q. ⌜ Good (q .writer) ⌝ }
 {
@@ -105,61 +126,85 @@ fn load_cue(step: &[u8], w: HpsWriter, due: u32) -> Left
     );
     let reply = call.reply;
     let writer = call.writer;
-    let good = is_reply(reply, due);
-    Left { writer, good }
+    let nowhere = Place {
+        offset: 0,
+        length: 0,
+    };
+    Finished {
+        reply,
+        places: [nowhere; 3],
+        writer,
+    }
 }
 
-fn load_push(
-    step: &[u8],
-    w: HpsWriter,
-    n: usize,
-    slot: &mut [u8],
-    lent: &mut [u8],
-    due: u32,
-) -> Left
+fn make_push(step: &[u8], w: HpsWriter, lent: &mut [u8]) -> Finished
     requires { ⌜ Good w ⌝ }
     ensures { λ q. ⌜ Good (q .writer) ⌝ }
 {
     let many = size(step, 20);
-    let left = side(step, 32);
-    let left_data = part(step, 80, many);
-    let right = side(step, 80 + many);
-    let right_data = part(step, 128 + many, size(step, 24));
-    let last = number(step, 16) == 1;
-    let call = push(
+    with_one(push(
         w,
         size(step, 12),
-        left,
-        right,
-        left_data,
-        right_data,
-        last,
+        side(step, 32),
+        side(step, 80 + many),
+        part(step, 80, many),
+        part(step, 128 + many, size(step, 24)),
+        number(step, 16) == 1,
         lent,
-    );
-    let reply = call.reply;
-    let place = call.place;
-    let writer = call.writer;
-    let good = is_carried(slot, n, reply, due, place, lent);
-    Left { writer, good }
+    ))
 }
 
-fn load_finish(
-    step: &[u8],
-    w: HpsWriter,
-    n: usize,
-    slot: &mut [u8],
-    lent: &mut [u8],
-    due: u32,
-) -> Left
+fn make(step: &[u8], w: HpsWriter, lent: &mut [u8]) -> Finished
     requires { ⌜ Good w ⌝ }
     ensures { λ q. ⌜ Good (q .writer) ⌝ }
 {
-    let call = finish(w, lent);
-    let reply = call.reply;
-    let places = call.places;
+    match number(step, 0) {
+        2 => make_begin(step, lent),
+        3 => make_cue(step, w),
+        4 => make_push(step, w, lent),
+        _ => finish(w, lent),
+    }
+}
+
+// Whether the reply is as recorded; the writes are carried out.
+fn carry(step: &[u8], q: Finished, slot: &mut [u8], lent: &[u8]) -> bool {
+    let due = number(step, 4);
+    let n = size(step, 8);
+    let reply = q.reply;
+    let places = q.places;
+    match number(step, 0) {
+        3 => is_reply(reply, due),
+        5 => is_header_carried(slot, n, reply, due, size(step, 12), places, lent),
+        _ => {
+            let place = places[0];
+            is_carried(slot, n, reply, due, place, lent)
+        }
+    }
+}
+
+fn run_call(step: &[u8], w: HpsWriter, slot: &mut [u8], lent: &mut [u8]) -> Left
+    requires { ⌜ Good w ⌝ }
+    ensures { λ q. ⌜ Good (q .writer) ⌝ }
+{
+    let call = make(step, w, lent);
     let writer = call.writer;
-    let good = is_header_carried(slot, n, reply, due, size(step, 12), places, lent);
+    let good = carry(step, call, slot, lent);
     Left { writer, good }
+}
+
+fn least(a: usize, b: usize) -> usize
+    ensures { λ r. ⌜ r ≤ b ⌝ }
+{
+    if a < b { a } else { b }
+}
+
+// A call that is lent so many bytes of this buffer.
+fn lend(step: &[u8], w: HpsWriter, slot: &mut [u8], lent: &mut [u8]) -> Left
+    requires { ⌜ Good w ⌝ }
+    ensures { λ q. ⌜ Good (q .writer) ⌝ }
+{
+    let most = least(size(step, 28), lent.len());
+    run_call(step, w, slot, &mut lent[..most])
 }
 
 // Whether these bytes lie in the slot.
@@ -172,7 +217,6 @@ fn run_step(step: &[u8], w: HpsWriter, slot: &mut [u8], lent: &mut [u8]) -> Left
     requires { ⌜ Good w ⌝ }
     ensures { λ q. ⌜ Good (q .writer) ⌝ }
 {
-    let due = number(step, 4);
     let n = size(step, 8);
     match number(step, 0) {
         1 => {
@@ -182,10 +226,7 @@ fn run_step(step: &[u8], w: HpsWriter, slot: &mut [u8], lent: &mut [u8]) -> Left
                 good: true,
             }
         }
-        2 => load_begin(step, n, slot, lent, due),
-        3 => load_cue(step, w, due),
-        4 => load_push(step, w, n, slot, lent, due),
-        5 => load_finish(step, w, n, slot, lent, due),
+        2..=5 => lend(step, w, slot, lent),
         6 => {
             let good = has_bytes(slot, n, part(step, 32, size(step, 12)));
             Left { writer: w, good }
@@ -197,21 +238,6 @@ fn run_step(step: &[u8], w: HpsWriter, slot: &mut [u8], lent: &mut [u8]) -> Left
     }
 }
 
-fn least(a: usize, b: usize) -> usize
-    ensures { λ r. ⌜ r ≤ b ⌝ }
-{
-    if a < b { a } else { b }
-}
-
-// A step that is lent so many bytes of this buffer.
-fn lend(step: &[u8], w: HpsWriter, slot: &mut [u8], lent: &mut [u8]) -> Left
-    requires { ⌜ Good w ⌝ }
-    ensures { λ q. ⌜ Good (q .writer) ⌝ }
-{
-    let most = least(size(step, 28), lent.len());
-    run_step(step, w, slot, &mut lent[..most])
-}
-
 // Steps one after the other, each with its length before it. Gives 0, or 1 and the number of the first that went another way; 1 where there is none.
 fn other_step(body: &[u8], begun: HpsWriter, slot: &mut [u8], lent: &mut [u8]) -> usize
     requires { ⌜ Good begun ⌝ }
@@ -221,7 +247,7 @@ fn other_step(body: &[u8], begun: HpsWriter, slot: &mut [u8], lent: &mut [u8]) -
     let mut steps: usize = 0;
     while steps < STEPS {
         let n = size(body, at);
-        let left = lend(part(body, at + 4, n), w, slot, lent);
+        let left = run_step(part(body, at + 4, n), w, slot, lent);
         if !left.good {
             return 1 + steps;
         }

@@ -2,6 +2,8 @@
 use layout::FrameContext;
 use stored::number;
 use words::hex::is_data;
+use words::numbers::Number;
+use words::numbers::Small;
 use words::numbers::signed;
 use words::numbers::unsigned;
 use words::text::Words;
@@ -10,6 +12,7 @@ use writer::ChannelBlock;
 use writer::Cue;
 use writer::CueKind;
 use writer::Looping;
+ghost use Prim.Native.Nat.{_≤_};
 
 const U64: u64 = 18446744073709551615;
 
@@ -106,6 +109,18 @@ pub fn kind_of(s: &[u8], w: Words) -> Kind {
     named(number(name, 0), w.count)
 }
 
+// A word as a decimal of at most max.
+fn decimal_at(s: &[u8], w: Words, i: usize, max: u64) -> Number
+    ensures { λ r. ⌜ r .value ≤ max ⌝ }
+{
+    unsigned(word(s, w, i), max)
+}
+
+// A word as a decimal of -32,768 to 32,767.
+fn small_at(s: &[u8], w: Words, i: usize) -> Small {
+    signed(word(s, w, i))
+}
+
 fn mode_of(n: u64) -> Looping {
     match n {
         0 => Looping::Disabled,
@@ -116,8 +131,8 @@ fn mode_of(n: u64) -> Looping {
 
 // BEGN channels mode
 pub fn begin_line(s: &[u8], w: Words) -> BeginLine {
-    let channels = unsigned(word(s, w, 1), U64);
-    let mode = unsigned(word(s, w, 2), 2);
+    let channels = decimal_at(s, w, 1, U64);
+    let mode = decimal_at(s, w, 2, 2);
     BeginLine {
         good: channels.good & mode.good,
         channels: channels.value as usize,
@@ -126,8 +141,8 @@ pub fn begin_line(s: &[u8], w: Words) -> BeginLine {
 }
 
 fn cue_at(s: &[u8], w: Words, kind: CueKind, name: usize) -> CueLine {
-    let start = unsigned(word(s, w, 1), U64);
-    let id = unsigned(word(s, w, name), U32);
+    let start = decimal_at(s, w, 1, U64);
+    let id = decimal_at(s, w, name, U32);
     CueLine {
         good: start.good & id.good,
         cue: Cue {
@@ -140,7 +155,7 @@ fn cue_at(s: &[u8], w: Words, kind: CueKind, name: usize) -> CueLine {
 
 // CUEP start name, LOOP start name or CUER start length name. The second number is a length or a name: that it is a number is asked of both.
 pub fn cue_line(s: &[u8], w: Words, kind: Kind) -> CueLine {
-    let second = unsigned(word(s, w, 2), U64);
+    let second = decimal_at(s, w, 2, U64);
     let line = match kind {
         Kind::Range => cue_at(s, w, CueKind::Range(second.value), 3),
         Kind::Loop => cue_at(s, w, CueKind::Loop, 2),
@@ -155,8 +170,8 @@ pub fn cue_line(s: &[u8], w: Words, kind: Kind) -> CueLine {
 
 // PUSH channels last
 pub fn push_line(s: &[u8], w: Words) -> PushLine {
-    let channels = unsigned(word(s, w, 1), U64);
-    let last = unsigned(word(s, w, 2), 1);
+    let channels = decimal_at(s, w, 1, U64);
+    let last = decimal_at(s, w, 2, 1);
     PushLine {
         good: channels.good & last.good,
         channels: channels.value,
@@ -166,7 +181,7 @@ pub fn push_line(s: &[u8], w: Words) -> PushLine {
 
 // LENT n
 pub fn lent_line(s: &[u8], w: Words) -> LentLine {
-    let length = unsigned(word(s, w, 1), U64);
+    let length = decimal_at(s, w, 1, U64);
     LentLine {
         good: length.good,
         length: length.value,
@@ -175,12 +190,12 @@ pub fn lent_line(s: &[u8], w: Words) -> LentLine {
 
 // CHAN's numbers but the coefficients: rate length gain ps s0 s1.
 fn side_of(s: &[u8], w: Words, coefficients: [i16; 16]) -> ChannelLine {
-    let rate = unsigned(word(s, w, 1), U32);
-    let length = unsigned(word(s, w, 2), U64);
-    let gain = unsigned(word(s, w, 3), U16);
-    let scale = unsigned(word(s, w, 4), U16);
-    let newer = signed(word(s, w, 5));
-    let older = signed(word(s, w, 6));
+    let rate = decimal_at(s, w, 1, U32);
+    let length = decimal_at(s, w, 2, U64);
+    let gain = decimal_at(s, w, 3, U16);
+    let scale = decimal_at(s, w, 4, U16);
+    let newer = small_at(s, w, 5);
+    let older = small_at(s, w, 6);
     let last = newer.value;
     let oldest = older.value;
     let context = FrameContext {
@@ -207,7 +222,7 @@ pub fn channel_line(s: &[u8], w: Words) -> ChannelLine {
     let mut good = is_data(data_word(s, w));
     let mut i: usize = 0;
     while i < 16 {
-        let c = signed(word(s, w, 7 + i));
+        let c = small_at(s, w, 7 + i);
         good = good & c.good;
         let value = c.value;
         coefficients[i] = value;

@@ -62,10 +62,6 @@ add-half c = search needs
 half-requires : tie.Need-half-requires Inv-loop μ-loop
 half-requires c κs = search needs
 
--- src/slot.rt:98:9
-returns-2 : tie.Need-returns-2 Inv-loop μ-loop
-returns-2 c = search needs
-
 -- src/slot.rt:100:31
 add-is-context : tie.Need-add-is-context Inv-loop μ-loop
 add-is-context c = search needs
@@ -75,8 +71,8 @@ is-context-requires : tie.Need-is-context-requires Inv-loop μ-loop
 is-context-requires c κs = search needs
 
 -- src/slot.rt:83:1
-returns-3 : tie.Need-returns-3 Inv-loop μ-loop
-returns-3 c = search needs
+returns-2 : tie.Need-returns-2 Inv-loop μ-loop
+returns-2 c = search needs
 
 pub is-info-spec : {M : Type 1} → statement M
 is-info-spec =
@@ -96,7 +92,6 @@ is-info-spec =
     loop-again
     add-half
     half-requires
-    returns-2
     add-is-context
     is-context-requires
-    returns-3)
+    returns-2)

@@ -6,7 +6,7 @@ use Rattle.replay_loads.proofs.loading.lend.Tie as tie
 use Rattle.replay_loads.proofs.loading.lend.Reads as reads
 use Rattle.replay_loads.proofs.loading.lend.Lts as lts
 use Rattle.replay_loads.proofs.loading.least.Reads as least-reads
-use Rattle.replay_loads.proofs.loading.run_step.Reads as run-step-reads
+use Rattle.replay_loads.proofs.loading.run_call.Reads as run-call-reads
 use Rattle.stored.proofs.size.Reads as size-reads
 
 size-requires : tie.Need-size-requires
@@ -15,14 +15,14 @@ size-requires c κs = search needs
 least-requires : tie.Need-least-requires
 least-requires c κs = search needs
 
-slice-relend-prefix-run-step : tie.Need-slice-relend-prefix-run-step
-slice-relend-prefix-run-step c = search needs
+slice-relend-prefix-run-call : tie.Need-slice-relend-prefix-run-call
+slice-relend-prefix-run-call c = search needs
 
-slice-aggregate-run-step : tie.Need-slice-aggregate-run-step
-slice-aggregate-run-step c = sym (length-take-le _ _ (slice-relend-prefix-run-step (c .before)))
+slice-aggregate-run-call : tie.Need-slice-aggregate-run-call
+slice-aggregate-run-call c = sym (length-take-le _ _ (slice-relend-prefix-run-call (c .before)))
 
-run-step-requires : tie.Need-run-step-requires
-run-step-requires c κs = search needs
+run-call-requires : tie.Need-run-call-requires
+run-call-requires c κs = search needs
 
 same-length : tie.Need-same-length
 same-length c = search needs
@@ -39,9 +39,9 @@ lend-spec =
     (tie.spec
     size-requires
     least-requires
-    slice-relend-prefix-run-step
-    slice-aggregate-run-step
-    run-step-requires
+    slice-relend-prefix-run-call
+    slice-aggregate-run-call
+    run-call-requires
     same-length
     same-length-2
     returns)

@@ -8,7 +8,7 @@ use Rattle.replay_loads.proofs.loading.other_step.Statement.{statement}
 use Rattle.replay_loads.proofs.loading.other_step.Tie as tie
 use Rattle.replay_loads.proofs.loading.other_step.Reads as reads
 use Rattle.replay_loads.proofs.loading.other_step.Lts as lts
-use Rattle.replay_loads.proofs.loading.lend.Reads as lend-reads
+use Rattle.replay_loads.proofs.loading.run_step.Reads as run-step-reads
 use Rattle.stored.proofs.part.Reads as part-reads
 use Rattle.stored.proofs.size.Reads as size-reads
 
@@ -30,8 +30,8 @@ add-part c = search needs
 part-requires : tie.Need-part-requires Inv-loop μ-loop
 part-requires c κs = search needs
 
-lend-requires : tie.Need-lend-requires Inv-loop μ-loop
-lend-requires c κs = search needs
+run-step-requires : tie.Need-run-step-requires Inv-loop μ-loop
+run-step-requires c κs = search needs
 
 add-result : tie.Need-add-result Inv-loop μ-loop
 add-result c = search needs
@@ -91,7 +91,7 @@ other-step-spec =
     size-requires
     add-part
     part-requires
-    lend-requires
+    run-step-requires
     add-result
     same-length
     same-length-2

@@ -9,8 +9,7 @@ use Rattle.script.proofs.lines.channel_line.Lts as lts
 use Rattle.words.proofs.hex.is_data.Reads as is-data-reads
 use Rattle.script.proofs.lines.data_word.Reads as data-word-reads
 use Rattle.script.proofs.lines.side_of.Reads as side-of-reads
-use Rattle.words.proofs.numbers.signed.Reads as signed-reads
-use Rattle.words.proofs.text.word.Reads as word-reads
+use Rattle.script.proofs.lines.small_at.Reads as small-at-reads
 
 abbrev Inv-loop : tie.InvT-loop
 Inv-loop s w coefficients₀ good₀ i₀ coefficients good i = (length coefficients ≡ 16) × (i ≤ 16)
@@ -31,16 +30,12 @@ loop-holds : tie.Need-loop-holds Inv-loop μ-loop
 loop-holds c = search needs
 
 -- src/lines.rt:224:35
-add-word : tie.Need-add-word Inv-loop μ-loop
-add-word c = search needs
-
--- src/lines.rt:224:24
-word-requires : tie.Need-word-requires Inv-loop μ-loop
-word-requires c κs = search needs
+add-small-at : tie.Need-add-small-at Inv-loop μ-loop
+add-small-at c = search needs
 
 -- src/lines.rt:224:13
-signed-requires : tie.Need-signed-requires Inv-loop μ-loop
-signed-requires c κs = search needs
+small-at-requires : tie.Need-small-at-requires Inv-loop μ-loop
+small-at-requires c κs = search needs
 
 -- src/lines.rt:227:9
 mul-coefficients : tie.Need-mul-coefficients Inv-loop μ-loop
@@ -79,9 +74,8 @@ channel-line-spec =
     data-word-requires
     is-data-requires
     loop-holds
-    add-word
-    word-requires
-    signed-requires
+    add-small-at
+    small-at-requires
     mul-coefficients
     array-set-from-coefficients
     add-i

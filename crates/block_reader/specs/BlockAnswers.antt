@@ -1,32 +1,13 @@
--- What block read and addresses remaining return: the struct or enum for each answer of the definitions, with zeros where nothing is given.
+-- What block read returns: the struct or enum for each answer of the definitions, with zeros where nothing is given.
 use Prim.Native.Nat.{ℕ, _+_}
 use mathlib.Core.List.{List, []}
 use lib.ListN.{length, replicate}
-use lib.Dec.{leb}
 use lib.IntN.{pos}
-use Rattle.layout.specs.Choice.{pick}
-use Rattle.layout.specs.Records.{on, zeroContext, readHeader, lengthIn, addressToByteUp}
+use Rattle.layout.specs.Records.{zeroContext}
 use Rattle.layout.specs.declared.DspFormat.{DspFormat}
-use Rattle.layout.specs.declared.FrameContext.{FrameContext}
 use Rattle.block_reader.specs.declared.blocks.BlockReply.{BlockReply}
 use Rattle.block_reader.specs.declared.blocks.BlockCall.{BlockCall}
-use Rattle.block_reader.specs.declared.blocks.BlockData.{BlockData}
-use Rattle.block_reader.specs.declared.blocks.DataRead.{DataRead}
-use Rattle.block_reader.specs.declared.blocks.RemainingReply.{RemainingReply}
-use Rattle.reader.specs.OpeningAndReading.{BlockAnswer, contextIn, dataStart, Remaining}
-
--- ---- Block read
-
--- Where the data of a block lies, in a slot of this length.
-abbrev pub dataPlaced : (slot start bytes length : ℕ) → FrameContext → DataRead
-dataPlaced slot start n len c =
-    pick (leb (start + n) slot) (DataRead.Value (record { length = len; context = c; start = start; end = start + n })) DataRead.Short
-
--- The same of the block at an offset, in a channel of this format.
-unfoldable pub dataFound : List ℕ → (offset channel : ℕ) → DspFormat → DataRead
-dataFound s o ch f =
-    on (readHeader s o) (λ n. DataRead.Short) (λ h.
-    dataPlaced (length s) (dataStart o h ch (addressToByteUp f (lengthIn h))) (addressToByteUp f (lengthIn h)) (lengthIn h) (contextIn h ch))
+use Rattle.reader.specs.OpeningAndReading.{BlockAnswer}
 
 abbrev pub noBlock : BlockReply → (position : ℕ) → BlockCall
 noBlock q i =
@@ -46,9 +27,3 @@ blockData (BlockAnswer.refused n) = []
 blockData (BlockAnswer.refusedAt n j) = []
 blockData BlockAnswer.ended = []
 blockData (BlockAnswer.gave rate f cs gain len c start bytes j) = bytes
-
--- ---- Addresses remaining
-
-abbrev pub remainingReply : Remaining → RemainingReply
-remainingReply (Remaining.refused n) = RemainingReply.Refused n
-remainingReply (Remaining.addresses n) = RemainingReply.Addresses n

@@ -1,19 +1,16 @@
-// Block read and addresses remaining (document 01, "Opening and reading").
+// Block read (document 01, "Opening and reading").
+use data_places::DataRead;
+use data_places::find_data;
+use header_records::channels::no_channel;
 use layout::Channel;
 use layout::DspFormat;
 use layout::FrameContext;
-use layout::block::HeaderRead;
-use layout::block::read_header;
-use layout::channels::no_channel;
-use layout::fields::inside;
 use reader::HpsReader;
-use sizes::address_to_byte_up;
-use sizes::align;
 ghost use mathlib.Core.Path.{_≡_};
 ghost use lib.ListN.{getD};
 ghost use Rattle.layout.specs.Records.{noChannel};
-ghost use Rattle.reader.specs.OpeningAndReading.{Readable, blockRead, dataRemaining};
-ghost use Rattle.block_reader.specs.BlockAnswers.{dataPlaced, dataFound, noBlock, blockCall, blockData, remainingReply};
+ghost use Rattle.reader.specs.OpeningAndReading.{Readable, blockRead};
+ghost use Rattle.block_reader.specs.BlockAnswers.{noBlock, blockCall, blockData};
 
 pub enum BlockReply {
     Refused(u32),
@@ -35,64 +32,6 @@ pub struct BlockCall {
     pub end: usize,
     // The position after the call.
     pub position: usize,
-}
-
-// A block's length and context in a channel, and where its data lies.
-pub struct BlockData {
-    pub length: u64,
-    pub context: FrameContext,
-    pub start: usize,
-    pub end: usize,
-}
-
-pub enum DataRead {
-    Value(BlockData),
-    Short,
-}
-
-pub enum RemainingReply {
-    Refused(u32),
-    Addresses(u64),
-}
-
-fn place_data(
-    slot: usize,
-    start: usize,
-    bytes: usize,
-    length: u64,
-    context: FrameContext,
-) -> DataRead
-    ensures { λ d. ⌜ d ≡ dataPlaced slot start bytes length context ⌝ }
-{
-    if inside(slot, start, bytes) {
-        DataRead::Value(BlockData {
-            length,
-            context,
-            start,
-            end: start + bytes,
-        })
-    } else {
-        DataRead::Short
-    }
-}
-
-// The data in a channel of this format, of the block at an offset.
-fn find_data(s: &[u8], offset: u32, channel: usize, format: DspFormat) -> DataRead
-    ensures { λ d. ⌜ d ≡ dataFound (now (s .entry)) offset channel format ⌝ }
-{
-    let HeaderRead::Value(header) = read_header(s, offset) else {
-        return DataRead::Short;
-    };
-    let bytes = address_to_byte_up(header.end_address, format);
-    let length = header.end_address as u64 + 1;
-    let first = offset as usize + 32 + align(8 * header.cues);
-    if channel == 1 {
-        let right = header.right;
-        place_data(s.len(), first + align(bytes), bytes, length, right)
-    } else {
-        let left = header.left;
-        place_data(s.len(), first, bytes, length, left)
-    }
 }
 
 // A channel of the record, zeros where there is no such channel.
@@ -182,22 +121,4 @@ pub fn block_data<'a>(s: &'a [u8], r: HpsReader, channel: usize, position: usize
     let start = found.start;
     let end = found.end;
     &s[start..end]
-}
-
-// The sum of lengths over the blocks from a position on.
-pub fn data_remaining(s: &[u8], r: HpsReader, position: usize) -> RemainingReply
-    requires { ⌜ Readable r ⌝ }
-    ensures { λ q. ⌜ q ≡ remainingReply (dataRemaining (now (s .entry)) r position) ⌝ }
-{
-    let mut i = position;
-    let mut sum: u64 = 0;
-    while i < r.blocks {
-        let offset = r.offsets[i];
-        let HeaderRead::Value(header) = read_header(s, offset) else {
-            return RemainingReply::Refused(1);
-        };
-        sum += header.end_address as u64 + 1;
-        i += 1;
-    }
-    RemainingReply::Addresses(sum)
 }

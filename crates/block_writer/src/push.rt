@@ -1,4 +1,5 @@
 // Push: the block's bytes by its plan, and the record afterwards.
+use block_parts::put_padded;
 use push_plan::Stream;
 use push_plan::advance;
 use push_plan::block_end;
@@ -13,7 +14,6 @@ use writer::HpsWriter;
 use writer::Place;
 use writer::Reply;
 use written::put_header;
-use written::put_padded;
 ghost use mathlib.Core.Path.{_≡_};
 ghost use Prim.Native.Nat.{_+_, _≤_};
 ghost use lib.ListN.{length};

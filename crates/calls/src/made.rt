@@ -1,6 +1,7 @@
 // The calls.
 use crate::pushing::Pushing;
 use block_writer::push::push;
+use cue_writer::cue;
 use header_writer::finish::finish;
 use script::lines::BeginLine;
 use script::lines::CueLine;
@@ -18,7 +19,6 @@ use writer::HpsWriter;
 use writer::Place;
 use writer::Reply;
 use writer::begin;
-use writer::cues::cue;
 ghost use Prim.Native.Nat.{_≤_};
 ghost use mathlib.Core.Path.{_≡_};
 ghost use lib.ListN.{length};

@@ -1,2 +1,1 @@
 pub mod NextCueLaws
-pub mod SignLaws

@@ -1,23 +1,22 @@
 // The cue call and its cursor (document 01, "Cues read back").
+use cue_starts::cue_start;
+use cue_starts::loop_here;
 use layout::DspFormat;
-use layout::block::CueRead;
-use layout::block::HeaderRead;
-use layout::block::read_cue;
-use layout::block::read_header;
+use layout::answers::CueRead;
+use layout::answers::HeaderRead;
 use reader::CueIterator;
 use reader::HpsReader;
 use reader::LoopStart;
+use records::block::read_cue;
+use records::block::read_header;
 use sizes::num_samples;
 ghost use mathlib.Core.Path.{_≡_};
-ghost use Prim.Native.Nat.{_+_, _%_, _^_, _≤_};
+ghost use Prim.Native.Nat.{_+_, _≤_};
 ghost use lib.ListN.{length};
-ghost use mir.Syntax.{w64};
-ghost use mir.Val.{ofZ};
-ghost use Rattle.layout.specs.Choice.{_and_};
 ghost use Rattle.layout.specs.Records.{field, cueAt};
 ghost use Rattle.reader.specs.declared.HpsReader.{HpsReader};
 ghost use Rattle.reader.specs.OpeningAndReading.{Readable};
-ghost use Rattle.reader.specs.CuesReadBack.{cursor, looped, firstCursor, loopHere, cueStep};
+ghost use Rattle.reader.specs.CuesReadBack.{cursor, cueStep};
 ghost use Rattle.cue_reader.specs.CueAnswers.{cueCalled, cueCall, pointRead, PartsOf};
 
 pub enum CueReply {
@@ -32,57 +31,6 @@ pub enum CueReply {
 pub struct CueCall {
     pub reply: CueReply,
     pub cursor: CueIterator,
-}
-
-fn is_looped(start: LoopStart) -> bool
-    ensures { λ q. ⌜ q ≡ looped start ⌝ }
-{
-    match start {
-        LoopStart::None => false,
-        LoopStart::Block(_) => true,
-    }
-}
-
-pub fn first_cursor(r: HpsReader) -> CueIterator
-    ensures { λ c. ⌜ c ≡ firstCursor r ⌝ }
-{
-    let start = r.loop_start;
-    CueIterator {
-        block: 0,
-        place: 0,
-        base: 0,
-        due: is_looped(start),
-    }
-}
-
-fn loop_here(due: bool, start: LoopStart, block: usize) -> bool
-    ensures { λ q. ⌜ q ≡ due and loopHere start block ⌝ }
-{
-    if due {
-        match start {
-            LoopStart::None => false,
-            LoopStart::Block(i) => block == i,
-        }
-    } else {
-        false
-    }
-}
-
-// Of a negative number the bits are those of the number with all bits turned over, turned over again.
-fn sign_extended(index: i32) -> u64
-    ensures { λ n. ⌜ n ≡ ofZ w64 index ⌝ }
-{
-    if index < 0 {
-        u64::MAX - (!index) as u64
-    } else {
-        index as u64
-    }
-}
-
-fn cue_start(base: u64, index: i32) -> u64
-    ensures { λ n. ⌜ n ≡ (base + ofZ w64 index) % 2 ^ 64 ⌝ }
-{
-    std::num::wrapping_add_u64(base, sign_extended(index))
 }
 
 // The cue point at a byte of the slot.

@@ -1,14 +1,14 @@
 // The finish call (document 01, "Loading"): the file header, handed out as three writes.
+use header_bytes::put_file_header;
+use header_records::channels::no_channel;
 use layout::Channel;
 use layout::DspFormat;
-use layout::channels::no_channel;
 use puts::put_bytes;
 use writer::ChannelBlock;
 use writer::Finished;
 use writer::HpsWriter;
 use writer::Place;
 use writer::Reply;
-use written::put_file_header;
 ghost use mathlib.Core.Path.{_≡_};
 ghost use mathlib.Core.List.{_++_};
 ghost use Prim.Native.Nat.{_≤_, _<_, _%_};

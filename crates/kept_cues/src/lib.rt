@@ -1,7 +1,7 @@
 // Cue calls on a kept record, one after the other: the cursor and the cues are in lent bytes.
 use cue_reader::CueReply;
 use cue_reader::cue_from;
-use cue_reader::first_cursor;
+use cue_starts::first_cursor;
 use kept_reader::END;
 use kept_reader::NO_RECORD;
 use kept_reader::fields::long;

@@ -16,7 +16,7 @@ use Rattle.writer.specs.declared.Looping.{Looping}
 use Rattle.writer.specs.declared.Cue.{Cue}
 use Rattle.writer.specs.declared.HpsWriter.{HpsWriter}
 use Rattle.writer.specs.declared.Called.{Called}
-use Rattle.writer.specs.declared.cues.Cued.{Cued}
+use Rattle.writer.specs.declared.Cued.{Cued}
 use Rattle.writer.specs.declared.Finished.{Finished}
 use Rattle.kept_writer.specs.KeptWriter.{streamIn}
 use Rattle.kept_loading.specs.KeptLoading.{numberOf, givenOf, callOf, onKept, lentAfter}

@@ -2,6 +2,7 @@
 use block_writer::push::HEADER_SIZE;
 use block_writer::push::put_data;
 use block_writer::push::stream_of;
+use cue_writer::cue;
 use header_writer::finish::finish;
 use kept_puts::put_finished;
 use kept_puts::put_numbers;
@@ -22,7 +23,6 @@ use writer::Cue;
 use writer::Looping;
 use writer::Reply;
 use writer::begin;
-use writer::cues::cue;
 use written::put_header;
 ghost use mathlib.Core.Path.{_≡_};
 ghost use lib.ListN.{length};

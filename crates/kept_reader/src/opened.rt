@@ -1,8 +1,8 @@
 // The opening record in bytes: the file header, with zeros for a channel that is not in use; the count of blocks; the loop start, 4,294,967,295 for none; the offsets of 512 blocks.
 use crate::fields::word;
-use layout::channels::ChannelAnswer;
-use layout::channels::no_channel;
-use layout::channels::read_channel;
+use header_records::channels::no_channel;
+use header_records::channels::read_channel;
+use layout::answers::ChannelAnswer;
 use puts::put_bytes;
 use puts::put_u32;
 use puts::put_zeros;

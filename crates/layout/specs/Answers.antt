@@ -11,17 +11,17 @@ use Rattle.layout.specs.declared.fields.U32Read.{U32Read}
 use Rattle.layout.specs.declared.fields.I16Read.{I16Read}
 use Rattle.layout.specs.declared.fields.I32Read.{I32Read}
 use Rattle.layout.specs.declared.FrameContext.{FrameContext}
-use Rattle.layout.specs.declared.context.ContextRead.{ContextRead}
+use Rattle.layout.specs.declared.answers.ContextRead.{ContextRead}
 use Rattle.layout.specs.declared.CuePoint.{CuePoint}
 use Rattle.layout.specs.declared.BlockHeader.{BlockHeader}
-use Rattle.layout.specs.declared.block.CueRead.{CueRead}
-use Rattle.layout.specs.declared.block.HeaderRead.{HeaderRead}
+use Rattle.layout.specs.declared.answers.CueRead.{CueRead}
+use Rattle.layout.specs.declared.answers.HeaderRead.{HeaderRead}
 use Rattle.layout.specs.declared.DspFormat.{DspFormat}
 use Rattle.layout.specs.declared.Channel.{Channel}
-use Rattle.layout.specs.declared.channels.FormatRead.{FormatRead}
-use Rattle.layout.specs.declared.channels.ChannelAnswer.{ChannelAnswer}
-use Rattle.layout.specs.declared.channels.ChannelRead.{ChannelRead}
-use Rattle.layout.specs.declared.file.MagicRead.{MagicRead}
+use Rattle.layout.specs.declared.answers.FormatRead.{FormatRead}
+use Rattle.layout.specs.declared.answers.ChannelAnswer.{ChannelAnswer}
+use Rattle.layout.specs.declared.answers.ChannelRead.{ChannelRead}
+use Rattle.layout.specs.declared.answers.MagicRead.{MagicRead}
 
 -- The value, or the answer where it is refused.
 abbrev pub answer : {A B : Type 0} → (A → B) → B → Read A → B

@@ -5,8 +5,8 @@ use mathlib.Core.List.{List}
 use native.Mathlib.Omega.{arith}
 use Rattle.reader.specs.OpeningAndReading.{Opened, opening}
 use Rattle.reader.specs.ReaderAnswers.{openCall}
-use Rattle.reader.specs.declared.opening.OpenReply.{OpenReply}
-use Rattle.reader.specs.declared.opening.OpenCall.{OpenCall}
+use Rattle.reader.specs.declared.answers.OpenReply.{OpenReply}
+use Rattle.reader.specs.declared.answers.OpenCall.{OpenCall}
 
 refused-back : (o : Opened) (n : ℕ) → openCall o .reply ≡ OpenReply.Refused n → o ≡ Opened.refused n
 refused-back (Opened.refused m) n e = let x : m ≡ n = cc in ap Opened.refused x

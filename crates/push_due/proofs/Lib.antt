@@ -1,3 +1,2 @@
 pub mod DecideLaws
-pub mod CoefficientLaws
 pub mod GroupLaws

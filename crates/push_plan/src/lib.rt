@@ -1,8 +1,8 @@
 // What a push is to do, worked out of numbers alone: the first number due, the block's header and size, and what follows for the stream (document 01, "Loading").
 use layout::BlockHeader;
 use layout::FrameContext;
-use push_due::early_due;
-use push_due::room_due;
+use push_order::early_due;
+use push_order::room_due;
 use sizes::adpcm_samples;
 use sizes::align;
 use taking::Taken;

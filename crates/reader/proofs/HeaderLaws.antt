@@ -9,10 +9,10 @@ use borrow.Author.Tests.{leb-true, leb-false}
 use Rattle.layout.specs.Records.{P, Read, headerAt, readHeader}
 use Rattle.layout.specs.Answers.{headerRead}
 use Rattle.layout.specs.declared.BlockHeader.{BlockHeader}
-use Rattle.layout.specs.declared.block.HeaderRead.{HeaderRead}
+use Rattle.layout.specs.declared.answers.HeaderRead.{HeaderRead}
 use Rattle.layout.proofs.Cases.{by-cases}
 use Rattle.layout.proofs.FieldLaws.{field-inside, field-past, field-value, value-read, short}
-use Rattle.layout.proofs.ReadLaws.{header}
+use Rattle.records.proofs.ReadLaws.{header}
 
 module _ (s : List ℕ) (o : ℕ) {q : HeaderRead} (e : q ≡ headerRead (readHeader s o)) where
   pub header-got : {h : BlockHeader} → q ≡ HeaderRead.Value h → readHeader s o ≡ Read.value h

@@ -17,7 +17,7 @@ use Rattle.layout.proofs.Cases.{by-cases}
 use Rattle.reader.proofs.HeaderLaws.{header-cases}
 use Rattle.reader.specs.declared.LoopStart.{LoopStart}
 use Rattle.reader.specs.declared.HpsReader.{HpsReader}
-use Rattle.reader.specs.declared.opening.OpenCall.{OpenCall}
+use Rattle.reader.specs.declared.answers.OpenCall.{OpenCall}
 use Rattle.reader.specs.OpeningAndReading.{Walked, refused, walked, firstAt, walkFrom, Opened, onWalk, made, opening, Readable}
 use Rattle.reader.specs.ReaderAnswers.{openCall}
 

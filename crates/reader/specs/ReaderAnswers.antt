@@ -7,17 +7,17 @@ use Rattle.layout.specs.Choice.{pick}
 use Rattle.layout.specs.Records.{noChannel}
 use Rattle.layout.specs.Refusals.{blockLimit}
 use Rattle.layout.specs.declared.Channel.{Channel}
-use Rattle.layout.specs.declared.file.MagicRead.{MagicRead}
-use Rattle.layout.specs.declared.file.MagicRead.the-variants.{Right, Wrong, Short}
-use Rattle.layout.specs.declared.channels.ChannelAnswer.{ChannelAnswer}
-use Rattle.layout.specs.declared.channels.ChannelAnswer.the-variants as C
+use Rattle.layout.specs.declared.answers.MagicRead.{MagicRead}
+use Rattle.layout.specs.declared.answers.MagicRead.the-variants.{Right, Wrong, Short}
+use Rattle.layout.specs.declared.answers.ChannelAnswer.{ChannelAnswer}
+use Rattle.layout.specs.declared.answers.ChannelAnswer.the-variants as C
 use Rattle.reader.specs.declared.LoopStart.{LoopStart}
 use Rattle.reader.specs.declared.LoopStart.the-variants.{None, Block}
 use Rattle.reader.specs.declared.HpsReader.{HpsReader}
-use Rattle.reader.specs.declared.opening.OpenReply.{OpenReply}
-use Rattle.reader.specs.declared.opening.OpenCall.{OpenCall}
-use Rattle.reader.specs.declared.walk.WalkReply.{WalkReply}
-use Rattle.reader.specs.declared.walk.Walk.{Walk}
+use Rattle.reader.specs.declared.answers.OpenReply.{OpenReply}
+use Rattle.reader.specs.declared.answers.OpenCall.{OpenCall}
+use Rattle.reader.specs.declared.answers.WalkReply.{WalkReply}
+use Rattle.reader.specs.declared.answers.Walk.{Walk}
 use Rattle.reader.specs.OpeningAndReading.{Opened, Walked}
 
 -- ---- Opening

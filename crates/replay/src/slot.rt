@@ -1,9 +1,7 @@
 // A slot's listing, which makes every cue call, and its block reads and addresses remaining, held to recorded answers.
 use block_reader::blocks::BlockCall;
 use block_reader::blocks::BlockReply;
-use block_reader::blocks::RemainingReply;
 use block_reader::blocks::block_data;
-use block_reader::blocks::data_remaining;
 use block_reader::blocks::read_block;
 use check::same;
 use io::large_buffer;
@@ -14,6 +12,8 @@ use listing::listing::fill;
 use listing::listing::start_listing;
 use puts::put_bytes;
 use reader::HpsReader;
+use remaining::RemainingReply;
+use remaining::data_remaining;
 use stored::half;
 use stored::long;
 use stored::number;

@@ -1,8 +1,8 @@
 // The cues that a block takes of the table, and their bytes (document 01, "Loading").
+use block_parts::put_fillers;
 use puts::put_u32;
 use writer::Cue;
 use writer::CueKind;
-use written::put_fillers;
 ghost use mathlib.Core.Path.{_≡_};
 ghost use Prim.Native.Nat.{_+_, _-_, _*_, _≤_, _<_, _^_};
 ghost use lib.ListN.{length};

@@ -10,10 +10,10 @@ use Rattle.cue_reader.proofs.cue_from.Statement.{statement}
 use Rattle.cue_reader.proofs.cue_from.Tie as tie
 use Rattle.cue_reader.proofs.cue_from.Reads as reads
 use Rattle.cue_reader.proofs.cue_from.Lts as lts
-use Rattle.cue_reader.proofs.loop_here.Reads as loop-here-reads
+use Rattle.cue_starts.proofs.loop_here.Reads as loop-here-reads
 use Rattle.cue_reader.proofs.point_at.Reads as point-at-reads
 use Rattle.cue_reader.proofs.stepped.Reads as stepped-reads
-use Rattle.layout.proofs.block.read_header.Reads as read-header-reads
+use Rattle.records.proofs.block.read_header.Reads as read-header-reads
 use Rattle.sizes.proofs.num_samples.Reads as num-samples-reads
 use Rattle.std.proofs.num.wrapping_add_u64.Reads as wrapping-add-u64-reads
 

@@ -6,7 +6,7 @@ use mir.ValLaws.{toZ-ofZ}
 use mathlib.Core.Path.{_≡_, sym, ap, _∙_}
 use denote.Ref.{now}
 use Rattle.layout.proofs.FieldLaws.{got, short}
-use Rattle.layout.proofs.ReadLaws.{cue}
+use Rattle.records.proofs.ReadLaws.{cue}
 use Rattle.cue_reader.specs.CueAnswers.{pointRead}
 use Rattle.cue_reader.proofs.NextCueLaws.{point-read}
 use borrow.Author.Needs.{needs}

@@ -15,7 +15,7 @@ use Rattle.kept_loading.proofs.cue_kept.Lts as lts
 use Rattle.kept_loading.proofs.refused.Reads as refused-reads
 use Rattle.kept_puts.proofs.put_table.Reads as put-table-reads
 use Rattle.kept_writer.proofs.loader.writer_in.Reads as writer-in-reads
-use Rattle.writer.proofs.cues.cue.Reads as cue-reads
+use Rattle.cue_writer.proofs.cue.Reads as cue-reads
 
 writer-in-requires : tie.Need-writer-in-requires
 writer-in-requires c κs = search needs

@@ -12,8 +12,8 @@ use Rattle.push_plan.proofs.plan_push.Statement.{statement}
 use Rattle.push_plan.proofs.plan_push.Tie as tie
 use Rattle.push_plan.proofs.plan_push.Reads as reads
 use Rattle.push_plan.proofs.plan_push.Lts as lts
-use Rattle.push_due.proofs.early_due.Reads as early-due-reads
-use Rattle.push_due.proofs.room_due.Reads as room-due-reads
+use Rattle.push_order.proofs.early_due.Reads as early-due-reads
+use Rattle.push_order.proofs.room_due.Reads as room-due-reads
 use Rattle.push_plan.proofs.data_size.Reads as data-size-reads
 use Rattle.push_plan.proofs.data_start.Reads as data-start-reads
 use Rattle.push_plan.proofs.loop_after.Reads as loop-after-reads

@@ -8,7 +8,7 @@ use Rattle.hps.proofs.reading.hps_open.Tie as tie
 use Rattle.hps.proofs.reading.hps_open.Reads as reads
 use Rattle.hps.proofs.reading.hps_open.Lts as lts
 use Rattle.kept_reader.proofs.opened.put_opened.Reads as put-opened-reads
-use Rattle.reader.proofs.opening.open.Reads as open-reads
+use Rattle.opening.proofs.open.Reads as open-reads
 
 returns : tie.Need-returns
 returns c =

@@ -1,7 +1,7 @@
 use mathlib.Core.Path.{refl, _∙_}
 use mathlib.Core.Logic.{⊎-elim}
 use native.Mathlib.Omega.{arith}
-use Rattle.reader.proofs.OpenLaws.{channel-read, channel-refused}
+use Rattle.opening.proofs.OpenLaws.{channel-read, channel-refused}
 use Rattle.kept_reader.proofs.KeptReads.{and-readable, too-few, many-channels, many-blocks, no-left, no-right, part-made}
 use borrow.Author.Needs.{needs}
 use Rattle.kept_reader.proofs.opened.reader_in.Statement.{statement}
@@ -13,7 +13,7 @@ use Rattle.kept_reader.proofs.opened.least.Reads as least-reads
 use Rattle.kept_reader.proofs.opened.loop_of.Reads as loop-of-reads
 use Rattle.kept_reader.proofs.opened.no_reader.Reads as no-reader-reads
 use Rattle.kept_reader.proofs.opened.offsets_in.Reads as offsets-in-reads
-use Rattle.layout.proofs.channels.read_channel.Reads as read-channel-reads
+use Rattle.header_records.proofs.channels.read_channel.Reads as read-channel-reads
 
 no-reader-requires : tie.Need-no-reader-requires
 no-reader-requires c κs = search needs

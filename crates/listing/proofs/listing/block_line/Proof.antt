@@ -21,8 +21,8 @@ use Rattle.listing.proofs.listing.block_line.Statement.{statement}
 use Rattle.listing.proofs.listing.block_line.Tie as tie
 use Rattle.listing.proofs.listing.block_line.Reads as reads
 use Rattle.listing.proofs.listing.block_line.Lts as lts
-use Rattle.layout.proofs.block.read_header.Reads as read-header-reads
-use Rattle.lines.proofs.lines.put_block.Reads as put-block-reads
+use Rattle.records.proofs.block.read_header.Reads as read-header-reads
+use Rattle.block_lines.proofs.put_block.Reads as put-block-reads
 use Rattle.listing.proofs.listing.done.Reads as done-reads
 
 -- src/listing.rt:83:18

@@ -13,8 +13,8 @@ use Rattle.listing.proofs.listing.cue_line.Tie as tie
 use Rattle.listing.proofs.listing.cue_line.Reads as reads
 use Rattle.listing.proofs.listing.cue_line.Lts as lts
 use Rattle.cue_reader.proofs.next_cue.Reads as next-cue-reads
-use Rattle.lines.proofs.lines.put_cue.Reads as put-cue-reads
-use Rattle.lines.proofs.lines.put_loop.Reads as put-loop-reads
+use Rattle.cue_lines.proofs.put_cue.Reads as put-cue-reads
+use Rattle.cue_lines.proofs.put_loop.Reads as put-loop-reads
 use Rattle.listing.proofs.listing.done.Reads as done-reads
 
 -- src/listing.rt:102:9

@@ -14,9 +14,9 @@ use Rattle.listing.proofs.listing.put_line.Statement.{statement}
 use Rattle.listing.proofs.listing.put_line.Tie as tie
 use Rattle.listing.proofs.listing.put_line.Reads as reads
 use Rattle.listing.proofs.listing.put_line.Lts as lts
-use Rattle.cue_reader.proofs.first_cursor.Reads as first-cursor-reads
-use Rattle.lines.proofs.lines.put_head.Reads as put-head-reads
-use Rattle.lines.proofs.lines.put_stop.Reads as put-stop-reads
+use Rattle.cue_starts.proofs.first_cursor.Reads as first-cursor-reads
+use Rattle.block_lines.proofs.put_head.Reads as put-head-reads
+use Rattle.cue_lines.proofs.put_stop.Reads as put-stop-reads
 use Rattle.listing.proofs.listing.block_line.Reads as block-line-reads
 use Rattle.listing.proofs.listing.cue_line.Reads as cue-line-reads
 use Rattle.listing.proofs.listing.done.Reads as done-reads

@@ -6,7 +6,7 @@ use Rattle.listing.proofs.listing.start_listing.Statement.{statement}
 use Rattle.listing.proofs.listing.start_listing.Tie as tie
 use Rattle.listing.proofs.listing.start_listing.Reads as reads
 use Rattle.listing.proofs.listing.start_listing.Lts as lts
-use Rattle.reader.proofs.opening.open.Reads as open-reads
+use Rattle.opening.proofs.open.Reads as open-reads
 
 -- src/listing.rt:48:9
 open-requires : tie.Need-open-requires

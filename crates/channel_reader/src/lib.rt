@@ -1,0 +1,46 @@
+// A channel reading that carries the slot and its position, thin over the calls on plain parameters.
+use block_reader::blocks::BlockCall;
+use block_reader::blocks::block_data;
+use block_reader::blocks::read_block;
+use reader::HpsReader;
+use remaining::RemainingReply;
+use remaining::data_remaining;
+ghost use mathlib.Core.Path.{_≡_};
+ghost use Rattle.reader.specs.OpeningAndReading.{Readable, blockRead, dataRemaining};
+ghost use Rattle.block_reader.specs.BlockAnswers.{blockCall, blockData};
+ghost use Rattle.remaining.specs.RemainingAnswers.{remainingReply};
+
+pub struct ChannelReader<'a> {
+    pub slot: &'a [u8],
+    pub position: usize,
+}
+
+pub fn new<'a>(slot: &'a [u8], position: usize) -> ChannelReader<'a>
+    ensures { λ c. ⌜ (c .slot ≡ slot .entry) × (c .position ≡ position) ⌝ }
+{
+    ChannelReader { slot, position }
+}
+
+// The block at the position; the answer has the position to go on from.
+pub fn read<'a>(c: ChannelReader<'a>, r: HpsReader, channel: usize) -> BlockCall
+    requires { ⌜ Readable r ⌝ }
+    ensures { λ q. ⌜ q ≡ blockCall (c .entry .position) (blockRead (now (c .entry .slot)) r channel (c .entry .position)) ⌝ }
+{
+    read_block(c.slot, r, channel, c.position)
+}
+
+// Its data, a part of the slot itself.
+pub fn data<'a>(c: ChannelReader<'a>, r: HpsReader, channel: usize) -> &'a [u8]
+    requires { ⌜ Readable r ⌝ }
+    ensures { λ d. ⌜ now d ≡ blockData (blockRead (now (c .entry .slot)) r channel (c .entry .position)) ⌝ }
+{
+    block_data(c.slot, r, channel, c.position)
+}
+
+// The addresses from the position on.
+pub fn remaining<'a>(c: ChannelReader<'a>, r: HpsReader) -> RemainingReply
+    requires { ⌜ Readable r ⌝ }
+    ensures { λ q. ⌜ q ≡ remainingReply (dataRemaining (now (c .entry .slot)) r (c .entry .position)) ⌝ }
+{
+    data_remaining(c.slot, r, c.position)
+}

@@ -1,0 +1,13 @@
+use mathlib.Core.Path.{_≡_}
+use borrow.Author.Needs.{needs}
+use Rattle.cue_starts.proofs.first_cursor.Statement.{statement}
+use Rattle.cue_starts.proofs.first_cursor.Tie as tie
+
+is-looped-requires : tie.Need-is-looped-requires
+is-looped-requires c κs = search needs
+
+returns : tie.Need-returns
+returns c = rw (c .is-looped .ensures)
+
+pub first-cursor-spec : {M : Type 1} → statement M
+first-cursor-spec = tie.close (tie.spec is-looped-requires returns)

@@ -1,0 +1,113 @@
+-- For the proof of cue: start and range length, the cue at its place, the answers in their order.
+use Prim.Native.Nat.{ℕ, zero, suc, _+_, _-_, _<_, _≤_}
+use mathlib.Core.Path.{_≡_, refl, ap, sym, _∙_}
+use mathlib.Core.Bool.{Bool, true, false}
+use mathlib.Core.List.{List, [], _∷_, _++_, append-assoc}
+use native.Mathlib.Omega.{arith}
+use native.Mathlib.Nat.{sub-zero}
+use borrow.Author.Tests.{lt-ltb, le-ltb, le-leb, lt-leb, ne-eqb}
+use lib.Dec.{ltb, eqb}
+use lib.ListN.{length, take, drop, length-take}
+use lib.Seq.{take-take, take-nil}
+use Rattle.layout.specs.Choice.{_or_}
+use Rattle.layout.specs.Lists.{firstIndex}
+use Rattle.layout.specs.Refusals.{startLimit, firstDue}
+use Rattle.layout.proofs.Cases.{by-cases}
+use Rattle.writer.specs.Loading.{zeroRange, before, has, insert, cueRefusal}
+use Rattle.writer.specs.declared.CueKind.{CueKind}
+use Rattle.writer.specs.declared.CueKind.the-variants.{Point, Loop, Range}
+use Rattle.writer.specs.declared.Cue.{Cue}
+use Rattle.writer.specs.declared.HpsWriter.{HpsWriter}
+use Rattle.writer.specs.declared.Reply.the-variants.{Refused, Accepted}
+use Rattle.writer.specs.declared.Cued.{Cued}
+use Rattle.writer.specs.Calls.{held, withTable, afterCue, cueOf, cued, Good}
+use Rattle.writer.proofs.GoodLaws.{cue-kept}
+
+-- ---- Start and range length
+
+module _ (s : ℕ) (k : CueKind) where
+  pub late : startLimit < s → true ≡ (ltb startLimit s or zeroRange k)
+  late h = rw (lt-ltb startLimit s h)
+
+  pub point : s ≤ startLimit → k ≡ Point → false ≡ (ltb startLimit s or zeroRange k)
+  point h e = simp (le-ltb startLimit s h, e)
+
+  pub loop : s ≤ startLimit → k ≡ Loop → false ≡ (ltb startLimit s or zeroRange k)
+  loop h e = simp (le-ltb startLimit s h, e)
+
+  pub range : (n : ℕ) → s ≤ startLimit → k ≡ Range n → eqb n 0 ≡ (ltb startLimit s or zeroRange k)
+  range n h e = simp (le-ltb startLimit s h, e)
+
+-- ---- The cue at its place
+
+place-most : (c : Cue) (cs : List Cue) → firstIndex (before c) cs ≤ length cs
+unfolding firstIndex
+place-most c [] = omega arith
+place-most c (d ∷ ds) = by-cases (before c d) (λ q. rw q (omega arith)) (λ q. rw q (omega (arith, place-most c ds)))
+
+inserted : (c : Cue) (cs : List Cue) → insert c cs ≡ take (firstIndex (before c) cs) cs ++ (c ∷ drop (firstIndex (before c) cs) cs)
+unfolding firstIndex insert
+inserted c [] = refl
+inserted c (d ∷ ds) = by-cases (before c d) (λ q. rw q) (λ q. rw q (ap (λ (l : List Cue). d ∷ l) (inserted c ds)))
+
+drop-take : (i n : ℕ) (t : List Cue) → drop i (take n t) ≡ take (n - i) (drop i t)
+drop-take zero n t = rw sub-zero
+drop-take (suc i) zero t = let z : 0 - suc i ≡ 0 = omega arith in rw z
+drop-take (suc i) (suc n) [] = sym (take-nil (suc n - suc i))
+drop-take (suc i) (suc n) (x ∷ t) = let z : suc n - suc i ≡ n - i = omega arith in rw z (drop-take i n t)
+
+-- ---- The answers, in their order
+
+-- What cue ensures of its result.
+abbrev Answers : HpsWriter → Cue → Cued → Type 0
+Answers w c q = (q ≡ cued (cueOf w c)) × Good (q .writer)
+
+held-count : (w : HpsWriter) → Good w → length (held w) ≡ w .count
+held-count w g = length-take (w .count) (w .cues) ∙ omega (arith, g .few, g .table)
+
+module _ (w : HpsWriter) (c : Cue) (g : Good w) {q : Cued} where
+  and-good : q ≡ cued (cueOf w c) → Answers w c q
+  and-good e = (e, rw e (cue-kept w g c))
+
+  refuses-with : (n : ℕ) → q ≡ record { reply = Refused n; writer = w } → cueRefusal (w .blocks) (held w) c ≡ n → (n ≡ 0 → ⊥) → Answers w c q
+  unfolding cueOf
+  refuses-with n e r h = and-good (e ∙ rw (r, ne-eqb n 0 h))
+
+  accepts-as : (v : HpsWriter) → q ≡ record { reply = Accepted 0; writer = v } → cueRefusal (w .blocks) (held w) c ≡ 0 → v ≡ afterCue w c → Answers w c q
+  unfolding cueOf
+  accepts-as v e r h = and-good (e ∙ rw (r, h))
+
+  pub late-cue : q ≡ record { reply = Refused 21; writer = w } → 0 < w .blocks → Answers w c q
+  unfolding firstDue
+  late-cue e h = refuses-with 21 e (rw (lt-ltb 0 (w .blocks) h)) (λ z. omega arith)
+
+  module _ {b : Bool} (none : w .blocks ≤ 0) (eb : b ≡ (ltb startLimit (c .start) or zeroRange (c .kind))) where
+    pub bad-cue : q ≡ record { reply = Refused 8; writer = w } → b ≡ true → Answers w c q
+    unfolding firstDue
+    bad-cue e h = refuses-with 8 e (rw (le-ltb 0 (w .blocks) none, sym eb ∙ h)) (λ z. omega arith)
+
+    module _ {f : Bool} (fine : b ≡ false) (ef : f ≡ has c (held w)) where
+      pub equal-cue : q ≡ record { reply = Accepted 0; writer = w } → f ≡ true → Answers w c q
+      unfolding firstDue afterCue
+      equal-cue e h =
+          let y = sym ef ∙ h in
+          accepts-as w e (rw (le-ltb 0 (w .blocks) none, sym eb ∙ fine, y)) (rw y)
+
+      pub no-room : q ≡ record { reply = Refused 20; writer = w } → f ≡ false → 128 ≤ w .count → Answers w c q
+      unfolding firstDue
+      no-room e h m =
+          refuses-with 20 e (rw (le-ltb 0 (w .blocks) none, sym eb ∙ fine, sym ef ∙ h, held-count w g, le-leb 128 (w .count) m)) (λ z. omega arith)
+
+      pub new-cue : {i : ℕ} {u : List Cue} → q ≡ record { reply = Accepted 0; writer = withTable w u (w .count + 1) } → f ≡ false → w .count < 128
+          → i ≡ firstIndex (before c) (held w) → u ≡ take i (w .cues) ++ (c ∷ (take (w .count - i) (drop i (w .cues)) ++ drop (w .count + 1) (w .cues)))
+          → Answers w c q
+      unfolding firstDue afterCue
+      new-cue {i} {u} e h m ei eu =
+          let z = sym ef ∙ h in
+          let il : i ≤ w .count = omega (arith, place-most c (held w), held-count w g) in
+          let new : u ≡ insert c (held w) ++ drop (w .count + 1) (w .cues) =
+          eu ∙ rw (inserted c (held w), ← ei, take-take i (w .count) (w .cues) il, drop-take i (w .count) (w .cues)) (simp append-assoc) in
+          accepts-as (withTable w u (w .count + 1)) e (rw (le-ltb 0 (w .blocks) none, sym eb ∙ fine, z, held-count w g, lt-leb 128 (w .count) m)) (rw (z, new))
+
+pub place-inside : (w : HpsWriter) (c : Cue) (i : ℕ) → i ≡ firstIndex (before c) (held w) → i ≤ w .count
+place-inside w c i e = omega (arith, place-most c (held w), length-take (w .count) (w .cues))

@@ -1,0 +1,82 @@
+// The cue call (document 01, "Loading").
+use cue_table::holds;
+use cue_table::place_of;
+use cue_table::put_in;
+use writer::Cue;
+use writer::CueKind;
+use writer::Cued;
+use writer::HpsWriter;
+use writer::Reply;
+ghost use mathlib.Core.Path.{_≡_};
+ghost use Prim.Native.Nat.{_+_};
+ghost use lib.Dec.{ltb};
+ghost use Rattle.layout.specs.Choice.{_or_};
+ghost use Rattle.layout.specs.Refusals.{startLimit};
+ghost use Rattle.writer.specs.Loading.{zeroRange};
+ghost use Rattle.writer.specs.Calls.{Good, cueOf, cued};
+
+const START_LIMIT: u64 = 2147483647;
+
+const CUE_LIMIT: usize = 128;
+
+// Refused with 8: the start is too late, or a range is empty.
+fn is_bad(start: u64, kind: CueKind) -> bool
+    ensures { λ r. ⌜ r ≡ (ltb startLimit start or zeroRange kind) ⌝ }
+{
+    if start > START_LIMIT {
+        return true;
+    }
+    match kind {
+        CueKind::Point => false,
+        CueKind::Loop => false,
+        CueKind::Range(n) => n == 0,
+    }
+}
+
+fn refused(w: HpsWriter, number: u32) -> Cued
+    ensures { λ q. ⌜ q ≡ record { reply = Reply.Refused number; writer = w } ⌝ }
+{
+    Cued {
+        reply: Reply::Refused(number),
+        writer: w,
+    }
+}
+
+fn accepted(next: HpsWriter) -> Cued
+    ensures { λ q. ⌜ q ≡ record { reply = Reply.Accepted 0; writer = next } ⌝ }
+{
+    Cued {
+        reply: Reply::Accepted(0),
+        writer: next,
+    }
+}
+
+// Cue: it goes to its place in the table, unless an equal one is there.
+pub fn cue(w: HpsWriter, c: Cue) -> Cued
+    requires { ⌜ Good w ⌝ }
+    ensures { λ q. ⌜ q ≡ cued (cueOf w c) ⌝ }
+    ensures { λ q. ⌜ Good (q .writer) ⌝ }
+{
+    if w.blocks > 0 {
+        return refused(w, 21);
+    }
+    let kind = c.kind;
+    if is_bad(c.start, kind) {
+        return refused(w, 8);
+    }
+    let t = w.cues;
+    let n = w.count;
+    if holds(t, n, c) {
+        return accepted(w);
+    }
+    if n >= CUE_LIMIT {
+        return refused(w, 20);
+    }
+    let i = place_of(t, n, c);
+    let u = put_in(t, n, i, c);
+    accepted(HpsWriter {
+        cues: u,
+        count: n + 1,
+        ..w
+    })
+}

@@ -1,0 +1,63 @@
+// Where the data of a block lies (document 01, "Opening and reading").
+use layout::DspFormat;
+use layout::FrameContext;
+use layout::answers::HeaderRead;
+use layout::fields::inside;
+use records::block::read_header;
+use sizes::address_to_byte_up;
+use sizes::align;
+ghost use mathlib.Core.Path.{_≡_};
+ghost use Rattle.data_places.specs.DataPlaces.{dataPlaced, dataFound};
+
+// A block's length and context in a channel, and where its data lies.
+pub struct BlockData {
+    pub length: u64,
+    pub context: FrameContext,
+    pub start: usize,
+    pub end: usize,
+}
+
+pub enum DataRead {
+    Value(BlockData),
+    Short,
+}
+
+fn place_data(
+    slot: usize,
+    start: usize,
+    bytes: usize,
+    length: u64,
+    context: FrameContext,
+) -> DataRead
+    ensures { λ d. ⌜ d ≡ dataPlaced slot start bytes length context ⌝ }
+{
+    if inside(slot, start, bytes) {
+        DataRead::Value(BlockData {
+            length,
+            context,
+            start,
+            end: start + bytes,
+        })
+    } else {
+        DataRead::Short
+    }
+}
+
+// The data in a channel of this format, of the block at an offset.
+pub fn find_data(s: &[u8], offset: u32, channel: usize, format: DspFormat) -> DataRead
+    ensures { λ d. ⌜ d ≡ dataFound (now (s .entry)) offset channel format ⌝ }
+{
+    let HeaderRead::Value(header) = read_header(s, offset) else {
+        return DataRead::Short;
+    };
+    let bytes = address_to_byte_up(header.end_address, format);
+    let length = header.end_address as u64 + 1;
+    let first = offset as usize + 32 + align(8 * header.cues);
+    if channel == 1 {
+        let right = header.right;
+        place_data(s.len(), first + align(bytes), bytes, length, right)
+    } else {
+        let left = header.left;
+        place_data(s.len(), first, bytes, length, left)
+    }
+}

@@ -1,0 +1,172 @@
+-- Opening field by field: what is still to be done after each read, and what a refused one comes to.
+use Prim.Native.Nat.{ℕ, _+_, _-_, _≤_, _<_}
+use mathlib.Core.Path.{_≡_, refl, sym, ap, _∙_}
+use mathlib.Core.Bool.{Bool, true, false, not}
+use mathlib.Core.List.{List, [], _∷_}
+use native.Mathlib.Omega.{arith}
+use lib.ListN.{length, take}
+use lib.Dec.{leb, eqb}
+use borrow.Author.Tests.{lt-ltb, le-ltb, leb-true, leb-false}
+use Rattle.layout.specs.Choice.{pick}
+use Rattle.layout.specs.Lists.{same}
+use Rattle.layout.specs.Records.{u16At, u32At, Read, field, on, formatOf, channelAt, readChannel, noChannel, magic}
+use Rattle.layout.specs.Refusals.{wrongCount, blockLimit, slotLimit}
+use Rattle.layout.specs.Answers.{channelRead, magicRead}
+use Rattle.layout.specs.declared.DspFormat.{DspFormat}
+use Rattle.layout.specs.declared.Channel.{Channel}
+use Rattle.layout.specs.declared.answers.ChannelAnswer.{ChannelAnswer}
+use Rattle.layout.specs.declared.answers.ChannelRead.{ChannelRead}
+use Rattle.layout.specs.declared.answers.MagicRead.{MagicRead}
+use Rattle.layout.proofs.Cases.{by-cases}
+use Rattle.layout.proofs.FieldLaws.{field-inside, field-past}
+use Rattle.reader.specs.declared.LoopStart.{LoopStart}
+use Rattle.reader.specs.declared.LoopStart.the-variants.{None, Block}
+use Rattle.reader.specs.declared.HpsReader.{HpsReader}
+use Rattle.reader.specs.declared.answers.OpenReply.{OpenReply}
+use Rattle.reader.specs.declared.answers.OpenCall.{OpenCall}
+use Rattle.reader.specs.declared.answers.WalkReply.{WalkReply}
+use Rattle.reader.specs.declared.answers.Walk.{Walk}
+use Rattle.reader.specs.OpeningAndReading.{Walked, refused, walked, walkFrom, Opened, onWalk, made, opening}
+use Rattle.reader.specs.ReaderAnswers.{openCall, filled, noWalk, walkReply, walkOf, inUse, magicNumber, channelNumber}
+
+-- ---- What is still to be done
+
+module _ (s : List ℕ) where
+  abbrev pub atWalk : (rate count : ℕ) → Channel → Channel → Opened
+  atWalk rate count l r = onWalk (walkFrom 512 s [] 128) (λ os start. Opened.opened (made rate count l r os start))
+
+  abbrev pub atRight : (rate count : ℕ) → Channel → Opened
+  atRight rate count l = on (readChannel s 72) Opened.refused (λ r. atWalk rate count l r)
+
+  abbrev pub atLeft : (rate count : ℕ) → Opened
+  atLeft rate count = on (readChannel s 16) Opened.refused (λ l. atRight rate count l)
+
+  abbrev pub atChannels : (rate count : ℕ) → Opened
+  atChannels rate count = pick (wrongCount count) (Opened.refused 3) (atLeft rate count)
+
+  abbrev pub atCount : (rate : ℕ) → Opened
+  atCount rate = on (field s 16 (u32At s 12)) Opened.refused (λ count. atChannels rate count)
+
+  abbrev pub atRate : Opened
+  atRate = on (field s 12 (u32At s 8)) Opened.refused (λ rate. atCount rate)
+
+  abbrev pub atMagic : Opened
+  atMagic = on (field s 8 (same (take 8 s) magic)) Opened.refused (λ m. pick (not m) (Opened.refused 2) atRate)
+
+  pub too-long : slotLimit < length s → opening s ≡ Opened.refused 7
+  unfolding opening
+  too-long h = rw (lt-ltb slotLimit (length s) h)
+
+  pub not-long : length s ≤ slotLimit → opening s ≡ atMagic
+  unfolding opening
+  not-long h = rw (le-ltb slotLimit (length s) h)
+
+  -- a call that refuses with the number that opening refuses with
+  pub refuses : {q : OpenCall} (n : ℕ) → q ≡ openCall (Opened.refused n) → opening s ≡ Opened.refused n → q ≡ openCall (opening s)
+  refuses n e f = e ∙ sym (ap openCall f)
+
+-- a read that gives a value, or is refused
+pub on-value : {A : Type 0} (q : Read A) {a : A} (g : A → Opened) → q ≡ Read.value a → on q Opened.refused g ≡ g a
+on-value q g e = rw e
+
+pub on-refused : {A : Type 0} (q : Read A) {n : ℕ} (g : A → Opened) → q ≡ Read.refused n → on q Opened.refused g ≡ Opened.refused n
+on-refused q g e = rw e
+
+pub pick-true : {b : Bool} (x y : Opened) → b ≡ true → pick b x y ≡ x
+pick-true x y e = rw e
+
+pub pick-false : {b : Bool} (x y : Opened) → b ≡ false → pick b x y ≡ y
+pick-false x y e = rw e
+
+-- ---- The magic
+
+field-cases : {A C : Type 0} (s : List ℕ) (past : ℕ) (a : A) → (field s past a ≡ Read.value a → C) → (field s past a ≡ Read.refused 1 → C) → C
+field-cases s past a f g =
+    by-cases (leb past (length s))
+    (λ t. f (field-inside s past a (leb-true past (length s) t)))
+    (λ t. g (field-past s past a (leb-false past (length s) t)))
+
+-- of a read that gives a test
+module _ (s : List ℕ) (past : ℕ) (b : Bool) (rest : Opened) {m : MagicRead} (e : m ≡ magicRead (field s past b)) where
+  abbrev tested : Opened
+  tested = on (field s past b) Opened.refused (λ t. pick (not t) (Opened.refused 2) rest)
+
+  pub magic-right : m ≡ MagicRead.Right → tested ≡ rest
+  magic-right f =
+      field-cases s past b
+      (λ t. by-cases b (λ u. rw (t, u)) (λ u. let k = sym (rw (t, u) at e) ∙ f in absurd (let z : _≡_ {A = ℕ} 0 1 = cc in omega arith)))
+      (λ t. let k = sym (rw t at e) ∙ f in absurd (let z : _≡_ {A = ℕ} 0 1 = cc in omega arith))
+
+  pub magic-wrong : (m ≡ MagicRead.Right → ⊥) → tested ≡ Opened.refused (magicNumber m)
+  magic-wrong f =
+      field-cases s past b
+      (λ t. by-cases b (λ u. absurd (f (rw (t, u) at e))) (λ u. let k = rw (t, u) at e in rw (t, u, k)))
+      (λ t. let k = rw t at e in rw (t, k))
+
+-- ---- A channel
+
+-- a refused channel's number
+refusals : (s : List ℕ) (at : ℕ) → (C : Type 0) → ((c : Channel) → readChannel s at ≡ Read.value c → C) → (readChannel s at ≡ Read.refused 1 → C) → (readChannel s at ≡ Read.refused 4 → C) → C
+unfolding readChannel
+refusals s at C f g h =
+    field-cases s (at + 4) (u16At s (at + 2))
+    (λ t.
+    let n = u16At s (at + 2) in
+    let known : (k : DspFormat) → formatOf n ≡ Read.value k → C =
+    λ k e. field-cases s (at + 56) (channelAt s at k) (λ u. f (channelAt s at k) (rw (t, e) u)) (λ u. g (rw (t, e) u)) in
+    by-cases (eqb n 0) (λ x. known DspFormat.Adpcm (rw x)) (λ x.
+    by-cases (eqb n 10) (λ y. known DspFormat.Pcm16 (rw (x, y))) (λ y.
+    by-cases (eqb n 25) (λ z. known DspFormat.Pcm8 (rw (x, y, z))) (λ z.
+    h (rw (t, x, y, z))))))
+    (λ t. g (rw t))
+
+module _ (s : List ℕ) (at : ℕ) {q : ChannelRead} (e : q ≡ channelRead (readChannel s at)) where
+  pub channel-read : q .answer ≡ ChannelAnswer.Value → readChannel s at ≡ Read.value (q .channel)
+  channel-read f =
+      refusals s at (readChannel s at ≡ Read.value (q .channel))
+      (λ c t. let k = rw t at e in rw (t, k))
+      (λ t. let k = rw t at e in let l = sym (ap (λ (x : ChannelRead). x .answer) k) ∙ f in absurd (let z : _≡_ {A = ℕ} 0 1 = cc in omega arith))
+      (λ t. let k = rw t at e in let l = sym (ap (λ (x : ChannelRead). x .answer) k) ∙ f in absurd (let z : _≡_ {A = ℕ} 0 1 = cc in omega arith))
+
+  pub channel-refused : (q .answer ≡ ChannelAnswer.Value → ⊥) → readChannel s at ≡ Read.refused (channelNumber (q .answer))
+  channel-refused f =
+      refusals s at (readChannel s at ≡ Read.refused (channelNumber (q .answer)))
+      (λ c t. let k = rw t at e in absurd (f (ap (λ (x : ChannelRead). x .answer) k)))
+      (λ t. let k = rw t at e in rw (t, k))
+      (λ t. let k = rw t at e in rw (t, k))
+
+-- ---- The walk
+
+same-reply : (a b : LoopStart) → walkReply a ≡ walkReply b → a ≡ b
+same-reply None None e = refl
+same-reply None (Block j) e = absurd (let z : _≡_ {A = ℕ} 0 1 = cc in omega arith)
+same-reply (Block i) None e = absurd (let z : _≡_ {A = ℕ} 0 1 = cc in omega arith)
+same-reply (Block i) (Block j) e = cc
+
+no-reply : (n : ℕ) (b : LoopStart) → WalkReply.Refused n ≡ walkReply b → ⊥
+no-reply n None e = let z : _≡_ {A = ℕ} 0 1 = cc in omega arith
+no-reply n (Block j) e = let z : _≡_ {A = ℕ} 0 1 = cc in omega arith
+
+module _ (rate count : ℕ) (l r : Channel) where
+  walk-ends : (x : Walked) {w : Walk} → w ≡ walkOf x → (start : LoopStart) → w .reply ≡ walkReply start
+      → onWalk x (λ os start. Opened.opened (made rate count l r os start))
+      ≡ Opened.opened (record { rate = rate; count = count; channels = inUse count l r; blocks = w .count; offsets = w .offsets; «loop_start» = start })
+  unfolding made filled
+  walk-ends (refused n) {w} e start f = absurd (no-reply n start (sym (ap (λ (x : Walk). x .reply) e) ∙ f))
+  walk-ends (walked os b) {w} e start f = rw (e, same-reply b start (sym (ap (λ (x : Walk). x .reply) e) ∙ f))
+
+  walk-refused : (x : Walked) {w : Walk} → w ≡ walkOf x → (n : ℕ) → w .reply ≡ WalkReply.Refused n
+      → onWalk x (λ os start. Opened.opened (made rate count l r os start)) ≡ Opened.refused n
+  walk-refused (refused k) {w} e n f = let g = sym (ap (λ (x : Walk). x .reply) e) ∙ f in ap Opened.refused cc
+  walk-refused (walked os b) {w} e n f = absurd (no-reply n b (sym f ∙ ap (λ (x : Walk). x .reply) e))
+
+-- ---- The record
+
+module _ (s : List ℕ) (rate count : ℕ) (l r : Channel) (e : opening s ≡ atWalk s rate count l r) {w : Walk} (f : w ≡ walkOf (walkFrom 512 s [] 128)) where
+  pub opens-to : {cs : List Channel} → cs ≡ inUse count l r → (start : LoopStart) → w .reply ≡ walkReply start
+      → _≡_ {A = OpenCall} (record { reply = OpenReply.Opened; reader = record { rate = rate; count = count; channels = cs; blocks = w .count; offsets = w .offsets; «loop_start» = start } })
+      (openCall (opening s))
+  opens-to g start h = rw (e ∙ walk-ends rate count l r (walkFrom 512 s [] 128) f start h) (rw g)
+
+  pub walk-stops : (n : ℕ) → w .reply ≡ WalkReply.Refused n → opening s ≡ Opened.refused n
+  walk-stops n h = e ∙ walk-refused rate count l r (walkFrom 512 s [] 128) f n h

@@ -1,0 +1,140 @@
+// Opening a slot (document 01, "Opening and reading").
+use header_records::channels::no_channel;
+use header_records::channels::read_channel;
+use header_records::file::read_magic;
+use layout::Channel;
+use layout::answers::ChannelAnswer;
+use layout::answers::MagicRead;
+use layout::fields::U32Read;
+use layout::fields::read_u32;
+use reader::BLOCK_LIMIT;
+use reader::HpsReader;
+use reader::LoopStart;
+use reader::SLOT_LIMIT;
+use reader::answers::OpenCall;
+use reader::answers::OpenReply;
+use reader::answers::WalkReply;
+use walk::walk_blocks;
+ghost use mathlib.Core.Path.{_≡_};
+ghost use Rattle.layout.specs.Refusals.{wrongCount};
+ghost use Rattle.reader.specs.OpeningAndReading.{Opened, opening, Readable};
+ghost use Rattle.reader.specs.ReaderAnswers.{noReader, openCall, magicNumber, channelNumber, inUse};
+
+fn no_reader() -> HpsReader
+    ensures { λ r. ⌜ r ≡ noReader ⌝ }
+{
+    let none = no_channel();
+    let channels = [none; 2];
+    let offsets = [0u32; BLOCK_LIMIT];
+    let loop_start = LoopStart::None;
+    HpsReader {
+        rate: 0,
+        count: 0,
+        channels,
+        blocks: 0,
+        offsets,
+        loop_start,
+    }
+}
+
+fn refused(number: u32) -> OpenCall
+    ensures { λ q. ⌜ q ≡ openCall (Opened.refused number) ⌝ }
+{
+    let reply = OpenReply::Refused(number);
+    let reader = no_reader();
+    OpenCall { reply, reader }
+}
+
+fn magic_number(magic: MagicRead) -> u32
+    ensures { λ n. ⌜ n ≡ magicNumber magic ⌝ }
+{
+    match magic {
+        MagicRead::Right => 0,
+        MagicRead::Wrong => 2,
+        MagicRead::Short => 1,
+    }
+}
+
+fn channel_number(answer: ChannelAnswer) -> u32
+    ensures { λ n. ⌜ n ≡ channelNumber answer ⌝ }
+{
+    match answer {
+        ChannelAnswer::Value => 0,
+        ChannelAnswer::Short => 1,
+        ChannelAnswer::Unknown => 4,
+    }
+}
+
+fn wrong_count(count: u32) -> bool
+    ensures { λ q. ⌜ q ≡ wrongCount count ⌝ }
+{
+    match count {
+        1 => false,
+        2 => false,
+        _ => true,
+    }
+}
+
+fn in_use(count: u32, left: Channel, right: Channel) -> [Channel; 2]
+    ensures { λ cs. ⌜ cs ≡ inUse count left right ⌝ }
+{
+    if count == 2 {
+        [left, right]
+    } else {
+        [left, no_channel()]
+    }
+}
+
+pub fn open(s: &[u8]) -> OpenCall
+    ensures { λ q. ⌜ q ≡ openCall (opening (now (s .entry))) ⌝ }
+    ensures { λ q. ⌜ Readable (q .reader) ⌝ }
+{
+    if s.len() > SLOT_LIMIT {
+        return refused(7);
+    }
+    let magic = read_magic(s);
+    let MagicRead::Right = magic else {
+        return refused(magic_number(magic));
+    };
+    let U32Read::Value(rate) = read_u32(s, 8) else {
+        return refused(1);
+    };
+    let U32Read::Value(count) = read_u32(s, 12) else {
+        return refused(1);
+    };
+    if wrong_count(count) {
+        return refused(3);
+    }
+    let left = read_channel(s, 16);
+    let answer = left.answer;
+    let ChannelAnswer::Value = answer else {
+        return refused(channel_number(answer));
+    };
+    let right = read_channel(s, 72);
+    let answer = right.answer;
+    let ChannelAnswer::Value = answer else {
+        return refused(channel_number(answer));
+    };
+    let walk = walk_blocks(s);
+    let end = walk.reply;
+    let loop_start = match end {
+        WalkReply::End => LoopStart::None,
+        WalkReply::Loop(i) => LoopStart::Block(i),
+        WalkReply::Refused(n) => return refused(n),
+    };
+    let offsets = walk.offsets;
+    let l = left.channel;
+    let r = right.channel;
+    let channels = in_use(count, l, r);
+    OpenCall {
+        reply: OpenReply::Opened,
+        reader: HpsReader {
+            rate,
+            count: count as usize,
+            channels,
+            blocks: walk.count,
+            offsets,
+            loop_start,
+        },
+    }
+}

@@ -1,0 +1,149 @@
+use Prim.Native.Nat.{ℕ, _+_, _-_, _≤_, _<_}
+use mathlib.Core.Path.{_≡_, _∙_}
+use borrow.Author.Needs.{needs}
+use borrow.Author.Count.{below-more, below-none}
+use native.Mathlib.Omega.{arith}
+use lib.ListN.{getD}
+use Rattle.reader.proofs.HeaderLaws.{header-got, header-short}
+use Rattle.walk.proofs.WalkLaws.{Walking, walking-none, at-full, at-short, at-end, at-loop, at-next, all-higher}
+use Rattle.walk.proofs.walk_blocks.Statement.{statement}
+use Rattle.walk.proofs.walk_blocks.Tie as tie
+
+abbrev Inv-loop : tie.InvT-loop
+Inv-loop s offsets count current highest next i₀ i = (i ≤ count) × ((k : ℕ) → k < i → getD offsets k 0 ≡ next → ⊥)
+
+abbrev μ-loop : tie.MeasureT-loop
+μ-loop s offsets count current highest next i₀ i = count - i
+
+abbrev Inv-walk : tie.InvT-walk
+Inv-walk s offsets₀ count₀ current₀ highest₀ offsets count current highest = Walking s offsets count current × ((k : ℕ) → k < count → getD offsets k 0 ≤ highest)
+
+abbrev μ-walk : tie.MeasureT-walk
+μ-walk s offsets₀ count₀ current₀ highest₀ offsets count current highest = 512 - count
+
+walk-holds : tie.Need-walk-holds Inv-loop μ-loop Inv-walk μ-walk
+walk-holds c = (walking-none _, below-none _)
+
+refused-requires : tie.Need-refused-requires Inv-loop μ-loop Inv-walk μ-walk
+refused-requires c κs = search needs
+
+returns : tie.Need-returns Inv-loop μ-loop Inv-walk μ-walk
+returns c =
+    let w = c .before .before .walk in
+    c .refused .ensures ∙ at-full _ (w .offsets) (w .count) (w .current) (w .inv .0) (c .before .if1 .taken)
+
+read-header-requires : tie.Need-read-header-requires Inv-loop μ-loop Inv-walk μ-walk
+read-header-requires c κs = search needs
+
+enum-known-header : tie.Need-enum-known-header Inv-loop μ-loop Inv-walk μ-walk
+enum-known-header c = search needs
+
+enum-told : tie.Need-enum-told Inv-loop μ-loop Inv-walk μ-walk
+enum-told c = search needs
+
+refused-requires-2 : tie.Need-refused-requires-2 Inv-loop μ-loop Inv-walk μ-walk
+refused-requires-2 c κs = search needs
+
+returns-2 : tie.Need-returns-2 Inv-loop μ-loop Inv-walk μ-walk
+returns-2 c =
+    let w = c .before .before .before .before .before .walk in
+    c .refused2 .ensures ∙ at-short _ (w .offsets) (w .count) (w .current) (w .inv .0) (c .before .before .before .before .if1 .left) (header-short _ _ (c .before .before .before .read-header .ensures) (c .before .enum-told .given .1))
+
+mul-offsets : tie.Need-mul-offsets Inv-loop μ-loop Inv-walk μ-walk
+mul-offsets c = search needs
+
+array-write-offsets : tie.Need-array-write-offsets Inv-loop μ-loop Inv-walk μ-walk
+array-write-offsets c = search needs
+
+add-count : tie.Need-add-count Inv-loop μ-loop Inv-walk μ-walk
+add-count c = search needs
+
+higher-requires : tie.Need-higher-requires Inv-loop μ-loop Inv-walk μ-walk
+higher-requires c κs = search needs
+
+search-from-requires : tie.Need-search-from-requires Inv-loop μ-loop Inv-walk μ-walk
+search-from-requires c κs = search needs
+
+loop-holds : tie.Need-loop-holds Inv-loop μ-loop Inv-walk μ-walk
+loop-holds c =
+    let w = c .before .before .before .before .before .before .before .before .walk in
+    let from = c .search-from .ensures in
+    let most = c .before .before .higher .ensures in (
+      from .0,
+      λ k l e.
+          let lower = all-higher _ (w .offsets) (w .count) (w .current) (w .inv .0) (c .before .before .before .before .before .before .before .if1 .left) _ _ (w .inv .1) (most .0) (most .1) k (omega (arith, from .0)) in
+          omega (arith, lower, e, from .1 k l),
+    )
+
+mul-if3 : tie.Need-mul-if3 Inv-loop μ-loop Inv-walk μ-walk
+mul-if3 c = search needs
+
+array-read-if3 : tie.Need-array-read-if3 Inv-loop μ-loop Inv-walk μ-walk
+array-read-if3 c = search needs
+
+add-i : tie.Need-add-i Inv-loop μ-loop Inv-walk μ-walk
+add-i c = search needs
+
+loop-less : tie.Need-loop-less Inv-loop μ-loop Inv-walk μ-walk
+loop-less c = search needs
+
+loop-again : tie.Need-loop-again Inv-loop μ-loop Inv-walk μ-walk
+loop-again c = (omega arith, below-more _ _ (c .before .before .loop .inv .1) (c .if3 .left))
+
+walk-less : tie.Need-walk-less Inv-loop μ-loop Inv-walk μ-walk
+walk-less c = search needs
+
+walk-again : tie.Need-walk-again Inv-loop μ-loop Inv-walk μ-walk
+walk-again c =
+    let w = c .before .before .before .before .before .before .before .before .before .before .walk in
+    let most = c .before .before .before .before .higher .ensures in (
+      at-next _ (w .offsets) (w .count) (w .current) (w .inv .0) (c .before .before .before .before .before .before .before .before .before .if1 .left) (c .before .before .before .before .before .before .header .given .0 .0)
+          (header-got _ _ (c .before .before .before .before .before .before .before .before .read-header .ensures) (c .before .before .before .before .before .before .header .given .1))
+          (c .before .before .before .if2 .left) (λ k l. c .before .loop .inv .1 k (omega arith)),
+      all-higher _ (w .offsets) (w .count) (w .current) (w .inv .0) (c .before .before .before .before .before .before .before .before .before .if1 .left) _ _ (w .inv .1) (most .0) (most .1),
+    )
+
+returns-3 : tie.Need-returns-3 Inv-loop μ-loop Inv-walk μ-walk
+returns-3 c =
+    let w = c .before .before .before .before .before .before .before .walk in
+    at-end _ (w .offsets) (w .count) (w .current) (w .inv .0) (c .before .before .before .before .before .before .if1 .left) (c .before .before .before .header .given .0 .0)
+    (header-got _ _ (c .before .before .before .before .before .read-header .ensures) (c .before .before .before .header .given .1)) (c .if2 .taken)
+
+returns-4 : tie.Need-returns-4 Inv-loop μ-loop Inv-walk μ-walk
+returns-4 c =
+    let w = c .before .before .before .before .before .before .before .before .before .before .before .walk in
+    at-loop _ (w .offsets) (w .count) (w .current) (w .inv .0) (c .before .before .before .before .before .before .before .before .before .before .if1 .left) (c .before .before .before .before .before .before .before .header .given .0 .0)
+    (header-got _ _ (c .before .before .before .before .before .before .before .before .before .read-header .ensures) (c .before .before .before .before .before .before .before .header .given .1))
+    (c .before .before .before .before .if2 .left) (c .before .before .loop .i) (omega arith) (c .if3 .taken) (c .before .before .loop .inv .1)
+
+pub walk-blocks-spec : {M : Type 1} → statement M
+walk-blocks-spec =
+    tie.close
+    (tie.spec
+    Inv-loop
+    μ-loop
+    Inv-walk
+    μ-walk
+    walk-holds
+    refused-requires
+    returns
+    read-header-requires
+    enum-known-header
+    enum-told
+    refused-requires-2
+    returns-2
+    mul-offsets
+    array-write-offsets
+    add-count
+    higher-requires
+    search-from-requires
+    loop-holds
+    mul-if3
+    array-read-if3
+    add-i
+    loop-less
+    loop-again
+    walk-less
+    walk-again
+    returns-3
+    returns-4)

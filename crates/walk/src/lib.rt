@@ -1,0 +1,82 @@
+// The walk along the chain of blocks (document 01, "Opening and reading").
+use layout::answers::HeaderRead;
+use reader::BLOCK_LIMIT;
+use reader::END_BLOCK_OFFSET;
+use reader::FIRST_BLOCK_OFFSET;
+use reader::answers::Walk;
+use reader::answers::WalkReply;
+use records::block::read_header;
+ghost use mathlib.Core.Path.{_≡_};
+ghost use mathlib.Core.List.{[]};
+ghost use Prim.Native.Nat.{ℕ, _≤_, _<_};
+ghost use Rattle.layout.specs.Records.{firstBlockOffset};
+ghost use Rattle.layout.specs.Refusals.{blockLimit};
+ghost use Rattle.reader.specs.OpeningAndReading.{walkFrom};
+ghost use Rattle.reader.specs.ReaderAnswers.{noWalk, walkOf};
+
+// A refused walk tells no offset.
+fn refused(number: u32) -> Walk
+    ensures { λ w. ⌜ w ≡ noWalk number ⌝ }
+{
+    let reply = WalkReply::Refused(number);
+    let offsets = [0u32; BLOCK_LIMIT];
+    Walk {
+        reply,
+        offsets,
+        count: 0,
+    }
+}
+
+fn higher(a: u32, b: u32) -> u32
+    ensures { λ r. ⌜ (a ≤ r) × (b ≤ r) ⌝ }
+{
+    if a < b { b } else { a }
+}
+
+// Where to begin the search for an offset: past all that were walked if it is higher than the highest of them.
+fn search_from(next: u32, highest: u32, count: usize) -> usize
+    ensures { λ r. ⌜ (r ≤ count) × ((k : ℕ) → k < r → highest < next) ⌝ }
+{
+    if next > highest {
+        return count;
+    }
+    0
+}
+
+// From the first block along the next offsets, until the end or a block already walked.
+pub fn walk_blocks(s: &[u8]) -> Walk
+    ensures { λ w. ⌜ w ≡ walkOf (walkFrom blockLimit (now (s .entry)) [] firstBlockOffset) ⌝ }
+{
+    let mut offsets = [0u32; BLOCK_LIMIT];
+    let mut count: usize = 0;
+    let mut current: u32 = FIRST_BLOCK_OFFSET;
+    let mut highest: u32 = 0;
+    let reply = 'walk: loop {
+        if count >= BLOCK_LIMIT {
+            return refused(5);
+        }
+        let HeaderRead::Value(header) = read_header(s, current) else {
+            return refused(1);
+        };
+        offsets[count] = current;
+        count += 1;
+        highest = higher(highest, current);
+        let next = header.next_offset;
+        if next == END_BLOCK_OFFSET {
+            break WalkReply::End;
+        }
+        let mut i = search_from(next, highest, count);
+        while i < count {
+            if offsets[i] == next {
+                break 'walk WalkReply::Loop(i);
+            }
+            i += 1;
+        }
+        current = next;
+    };
+    Walk {
+        reply,
+        offsets,
+        count,
+    }
+}

@@ -178,7 +178,8 @@ fn other_answer(s: &[u8], r: HpsReader, body: &[u8], from: usize) -> usize
         let n = size(body, at + 84);
         let want = part(body, at + 8, ANSWER);
         let data = part(body, at + 88, n);
-        if !is_answer(s, r, size(body, at), size(body, at + 4), want, data) {
+        let good = is_answer(s, r, size(body, at), size(body, at + 4), want, data);
+        if !(good & (data.len() == n)) {
             return 3 + turns;
         }
         at = at + 88 + n;

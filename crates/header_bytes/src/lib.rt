@@ -32,7 +32,7 @@ fn looping_number(looping: bool) -> u16
     if looping { 1 } else { 0 }
 }
 
-fn put_coefficients(buf: &mut [u8], at: usize, coefficients: [i16; 16])
+pub fn put_coefficients(buf: &mut [u8], at: usize, coefficients: [i16; 16])
     ensures { λ _. ⌜ now (buf .exit) ≡ putAt (now (buf .entry)) at (concat beZ16 coefficients) ⌝ }
 {
     if inside(buf.len(), at, 32) {

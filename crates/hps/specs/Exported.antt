@@ -9,10 +9,12 @@ use Rattle.layout.specs.Choice.{pick}
 use Rattle.layout.specs.Puts.{putAt}
 use Rattle.writer.specs.Loading.{Answer, accepted, refused}
 use Rattle.writer.specs.Calls.{beginOf, cueOf}
+use Rattle.writer.specs.declared.HpsWriter.{HpsWriter}
 use Rattle.kept_sides.specs.KeptSides.{kindOf}
 use Rattle.kept_writer.specs.KeptWriter.{loaderSize, modeOf, writerIn}
-use Rattle.kept_loading.specs.KeptLoading.{callOf, whereRoom, onKept}
+use Rattle.kept_loading.specs.KeptLoading.{callOf, whereRoom, onKept, recordAfter, recordBegun}
 use Rattle.kept_loading.specs.declared.KeptCall.{KeptCall}
+use Rattle.writer.specs.declared.HpsWriter.{HpsWriter}
 use Rattle.reader.specs.OpeningAndReading.{Opened, BlockAnswer, Remaining}
 use Rattle.reader.specs.declared.HpsReader.{HpsReader}
 use Rattle.kept_reader.specs.KeptReader.{openedSize, openedBytes}
@@ -106,7 +108,16 @@ beginCall n ch mode kept lent = pick (ltb 2 mode) noKind (whereRoom kept (callOf
 abbrev pub beginLent : (slot channels mode : ℕ) (kept lent : List ℕ) → List ℕ
 beginLent n ch mode kept lent = pick (ltb 2 mode) lent (pick (ltb (length kept) loaderSize) lent (beginOf n ch (modeOf mode) lent .lent))
 
+-- The record that the bytes hold after begin.
+abbrev pub beginRecord : (slot channels mode : ℕ) (kept lent : List ℕ) → HpsWriter
+beginRecord n ch mode kept lent = pick (ltb 2 mode) (writerIn kept) (recordBegun kept (beginOf n ch (modeOf mode) lent))
+
 -- Cue's number: 253 where there is no such kind.
 abbrev pub cueNumber : (kept : List ℕ) (start kind range name : ℕ) → ℕ
 cueNumber kept start kind range name =
     pick (ltb 2 kind) 253 (onKept kept (cueOf (writerIn kept) (record { start = start; kind = kindOf kind range; name = name })) .number)
+
+-- The record after it: as it was where there is no such kind.
+abbrev pub cueRecord : (kept : List ℕ) (start kind range name : ℕ) → HpsWriter
+cueRecord kept start kind range name =
+    pick (ltb 2 kind) (writerIn kept) (recordAfter kept (cueOf (writerIn kept) (record { start = start; kind = kindOf kind range; name = name })))

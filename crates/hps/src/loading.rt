@@ -11,13 +11,14 @@ use kept_sides::side_in;
 use kept_writer::loader::mode_of;
 use writer::Cue;
 ghost use mathlib.Core.Path.{_≡_};
+ghost use lib.ListN.{length};
 ghost use Rattle.writer.specs.Estimate.{estimateOf};
 ghost use Rattle.writer.specs.Calls.{pushOf, finishOf};
 ghost use Rattle.push_due.specs.PushDue.{pushArgs};
 ghost use Rattle.kept_sides.specs.KeptSides.{sideIn};
 ghost use Rattle.kept_writer.specs.KeptWriter.{writerIn};
-ghost use Rattle.kept_loading.specs.KeptLoading.{numberOf, onKept, finishedKept, lentAfter, Leaves};
-ghost use Rattle.hps.specs.Exported.{givenAfter, beginCall, beginLent, cueNumber, lengthAfter};
+ghost use Rattle.kept_loading.specs.KeptLoading.{numberOf, onKept, finishedKept, lentAfter, recordAfter, SameLength, Leaves};
+ghost use Rattle.hps.specs.Exported.{givenAfter, beginCall, beginLent, beginRecord, cueNumber, cueRecord, lengthAfter};
 
 // Begin: keeps the writer's record, and gives the write's offset and length. The mode is 0 Disabled, 1 Enabled, 2 Auto.
 #[no_mangle]
@@ -33,6 +34,7 @@ pub extern "C" fn hps_begin(
     ensures { λ r. ⌜ r ≡ beginCall slot channels mode (now (kept .entry)) (now (lent .entry)) .number ⌝ }
     ensures { λ r. ⌜ (now (offset .exit) ≡ givenAfter r (now (offset .entry)) (beginCall slot channels mode (now (kept .entry)) (now (lent .entry)) .offset)) × (now (length .exit) ≡ givenAfter r (now (length .entry)) (beginCall slot channels mode (now (kept .entry)) (now (lent .entry)) .length)) ⌝ }
     ensures { λ r. ⌜ (now (lent .exit) ≡ beginLent slot channels mode (now (kept .entry)) (now (lent .entry))) × Leaves r (now (kept .entry)) (now (kept .exit)) ⌝ }
+    ensures { λ _. ⌜ SameLength (now (kept .entry)) (now (kept .exit)) × (writerIn (now (kept .exit)) ≡ beginRecord slot channels mode (now (kept .entry)) (now (lent .entry))) ⌝ }
 {
     if mode > 2 {
         return NO_KIND;
@@ -50,6 +52,7 @@ pub extern "C" fn hps_begin(
 pub extern "C" fn hps_cue(kept: &mut [u8], start: u64, kind: u32, range: u64, name: u32) -> u32
     ensures { λ r. ⌜ r ≡ cueNumber (now (kept .entry)) start kind range name ⌝ }
     ensures { λ r. ⌜ Leaves r (now (kept .entry)) (now (kept .exit)) ⌝ }
+    ensures { λ _. ⌜ (writerIn (now (kept .exit)) ≡ cueRecord (now (kept .entry)) start kind range name) × (length (now (kept .exit)) ≡ length (now (kept .entry))) ⌝ }
 {
     if kind > 2 {
         return NO_KIND;
@@ -78,6 +81,7 @@ pub extern "C" fn hps_push(
     ensures { λ r. ⌜ now (length .exit) ≡ givenAfter r (now (length .entry)) (onKept (now (kept .entry)) (pushOf (writerIn (now (kept .entry))) (pushArgs channels (sideIn (now (left .entry)) 0) (sideIn (now (right .entry)) 0) (now («left_data» .entry)) (now («right_data» .entry)) last) (now (lent .entry))) .length) ⌝ }
     ensures { λ r. ⌜ now (lent .exit) ≡ lentAfter (now (kept .entry)) (now (lent .entry)) (pushOf (writerIn (now (kept .entry))) (pushArgs channels (sideIn (now (left .entry)) 0) (sideIn (now (right .entry)) 0) (now («left_data» .entry)) (now («right_data» .entry)) last) (now (lent .entry))) ⌝ }
     ensures { λ r. ⌜ Leaves r (now (kept .entry)) (now (kept .exit)) ⌝ }
+    ensures { λ _. ⌜ SameLength (now (kept .entry)) (now (kept .exit)) × (writerIn (now (kept .exit)) ≡ recordAfter (now (kept .entry)) (pushOf (writerIn (now (kept .entry))) (pushArgs channels (sideIn (now (left .entry)) 0) (sideIn (now (right .entry)) 0) (now («left_data» .entry)) (now («right_data» .entry)) last) (now (lent .entry)))) ⌝ }
 {
     let l = side_in(left, 0);
     let r = side_in(right, 0);
@@ -95,6 +99,7 @@ pub extern "C" fn hps_finish(kept: &mut [u8], lent: &mut [u8], finished: &mut us
     ensures { λ r. ⌜ r ≡ finishedKept (now (kept .entry)) (finishOf (writerIn (now (kept .entry))) (now (lent .entry))) .number ⌝ }
     ensures { λ r. ⌜ now (finished .exit) ≡ givenAfter r (now (finished .entry)) (finishedKept (now (kept .entry)) (finishOf (writerIn (now (kept .entry))) (now (lent .entry))) .length) ⌝ }
     ensures { λ r. ⌜ (now (lent .exit) ≡ lentAfter (now (kept .entry)) (now (lent .entry)) (finishOf (writerIn (now (kept .entry))) (now (lent .entry)))) × Leaves r (now (kept .entry)) (now (kept .exit)) ⌝ }
+    ensures { λ _. ⌜ SameLength (now (kept .entry)) (now (kept .exit)) × (writerIn (now (kept .exit)) ≡ recordAfter (now (kept .entry)) (finishOf (writerIn (now (kept .entry))) (now (lent .entry)))) ⌝ }
 {
     let call = finish_kept(kept, lent);
     if call.number == 0 {

@@ -18,8 +18,8 @@ use Rattle.writer.specs.declared.HpsWriter.{HpsWriter}
 use Rattle.writer.specs.declared.Called.{Called}
 use Rattle.writer.specs.declared.Cued.{Cued}
 use Rattle.writer.specs.declared.Finished.{Finished}
-use Rattle.kept_writer.specs.KeptWriter.{streamIn}
-use Rattle.kept_loading.specs.KeptLoading.{numberOf, givenOf, callOf, onKept, lentAfter}
+use Rattle.kept_writer.specs.KeptWriter.{streamIn, writerIn}
+use Rattle.kept_loading.specs.KeptLoading.{numberOf, givenOf, callOf, onKept, lentAfter, recordAfter}
 use Rattle.kept_loading.specs.declared.KeptCall.{KeptCall}
 
 -- The number of a reply.
@@ -46,12 +46,20 @@ module _ (kept lent : List ℕ) (o : Outcome) where
   pub gave : (streamIn kept .slot ≡ 0 → ⊥) → (q : Called) (b : List ℕ) → (q ≡ called o) × (b ≡ o .lent) → (keptOf q ≡ onKept kept o) × (b ≡ lentAfter kept lent o)
   gave h q b e = rw (ne-eqb (streamIn kept .slot) 0 h) (ap keptOf (e .0) ∙ rw (reply-number (o .answer)), e .1)
 
+-- the record that the bytes hold afterwards
+module _ (kept : List ℕ) (o : Outcome) where
+  pub none-after : streamIn kept .slot ≡ 0 → writerIn kept ≡ recordAfter kept o
+  none-after h = rw (eq-eqb (streamIn kept .slot) 0 h)
+
+  pub some-after : (streamIn kept .slot ≡ 0 → ⊥) → (w : HpsWriter) → w ≡ o .writer → w ≡ recordAfter kept o
+  some-after h w e = rw (ne-eqb (streamIn kept .slot) 0 h) e
+
 -- ---- What an outcome's reply tells
 
 refused-same : (n k : ℕ) → Refused n ≡ Refused k → n ≡ k
 refused-same n k e = cc
 
-apart-replies : {A : Type 0} (m k : ℕ) → Accepted m ≡ Refused k → A
+pub apart-replies : {A : Type 0} (m k : ℕ) → Accepted m ≡ Refused k → A
 apart-replies m k e = let z : _≡_ {A = ℕ} 0 1 = cc in absurd (omega arith)
 
 module _ (n : ℕ) (w next : HpsWriter) (lent : List ℕ) (m : ℕ) (ws : List Write) (k : ℕ) where
@@ -83,6 +91,11 @@ module _ (w : HpsWriter) (c : Cue) (q : Cued) (e : q ≡ cued (cueOf w c)) (k : 
   cue-accepted h =
       by-cases (eqb (cueRefusal (w .blocks) (held w) c) 0) (λ z. rw z)
       (λ z. apart-replies k _ (sym (rw z at (sym (ap (λ (c : Cued). c .reply) e) ∙ h))))
+
+  pub cue-leaves : q .reply ≡ Refused k → cueOf w c .writer ≡ w
+  unfolding cueOf
+  cue-leaves h =
+      by-cases (eqb (cueRefusal (w .blocks) (held w) c) 0) (λ z. apart-replies 0 k (rw z at (sym (ap (λ (c : Cued). c .reply) e) ∙ h))) (λ z. rw z)
 
 module _ (o : Outcome) (q : Finished) (e : q ≡ finished o) (k : ℕ) where
   finish-answer : (a : Answer) (r : Reply) → r ≡ replyOf a → _≡_ {A = KeptCall} (record { number = replyNumber r; offset = 0; length = givenIn r }) (record { number = numberOf a; offset = 0; length = givenOf a })

@@ -8,6 +8,7 @@ use kept_puts::put_finished;
 use kept_puts::put_numbers;
 use kept_puts::put_sides;
 use kept_puts::put_table;
+use kept_reader::NO_RECORD;
 use kept_writer::loader::LOADER_SIZE;
 use kept_writer::loader::held_kept;
 use kept_writer::loader::put_taken_kept;
@@ -25,16 +26,15 @@ use writer::Reply;
 use writer::begin;
 use written::put_header;
 ghost use mathlib.Core.Path.{_≡_};
+ghost use Prim.Native.Nat.{_<_, _≤_};
 ghost use lib.ListN.{length};
 ghost use lib.Dec.{ltb};
 ghost use Rattle.layout.specs.Choice.{pick};
+ghost use Rattle.layout.specs.Puts.{putAt};
 ghost use Rattle.writer.specs.Calls.{beginOf, cueOf, pushOf, finishOf};
 ghost use Rattle.push_due.specs.PushDue.{pushArgs};
 ghost use Rattle.kept_writer.specs.KeptWriter.{loaderSize, writerIn};
-ghost use Rattle.kept_loading.specs.KeptLoading.{callOf, whereRoom, onKept, finishedKept, lentAfter, Leaves};
-
-// The bytes hold no record.
-pub const NO_RECORD: u32 = 254;
+ghost use Rattle.kept_loading.specs.KeptLoading.{callOf, whereRoom, onKept, finishedKept, lentAfter, Leaves, SameLength, pushedBytes, recordAfter, recordBegun};
 
 // The number of a call, 0 where it is accepted; the place of the write that it hands out, or what else it gives.
 pub struct KeptCall {
@@ -54,7 +54,10 @@ fn refused(number: u32) -> KeptCall
 }
 
 // The numbers after a push, and after the first the sides: after a later block they stand there already.
-fn put_pushed(kept: &mut [u8], s: Stream) {
+fn put_pushed(kept: &mut [u8], s: Stream)
+    requires { ⌜ 184 ≤ length (now kept) ⌝ }
+    ensures { λ _. ⌜ now (kept .exit) ≡ putAt (now (kept .entry)) 0 (pushedBytes s) ⌝ }
+{
     put_numbers(kept, s);
     if s.blocks == 1 {
         let left = s.left;
@@ -74,6 +77,7 @@ pub fn begin_kept(
     ensures { λ q. ⌜ q ≡ whereRoom (now (kept .entry)) (callOf (beginOf slot channels mode (now (lent .entry)))) ⌝ }
     ensures { λ _. ⌜ now (lent .exit) ≡ pick (ltb (length (now (kept .entry))) loaderSize) (now (lent .entry)) (beginOf slot channels mode (now (lent .entry)) .lent) ⌝ }
     ensures { λ q. ⌜ Leaves (q .number) (now (kept .entry)) (now (kept .exit)) ⌝ }
+    ensures { λ _. ⌜ SameLength (now (kept .entry)) (now (kept .exit)) × (writerIn (now (kept .exit)) ≡ recordBegun (now (kept .entry)) (beginOf slot channels mode (now (lent .entry)))) ⌝ }
 {
     if kept.len() < LOADER_SIZE {
         return refused(14);
@@ -103,6 +107,7 @@ pub fn begin_kept(
 pub fn cue_kept(kept: &mut [u8], c: Cue) -> KeptCall
     ensures { λ q. ⌜ q ≡ onKept (now (kept .entry)) (cueOf (writerIn (now (kept .entry))) c) ⌝ }
     ensures { λ q. ⌜ Leaves (q .number) (now (kept .entry)) (now (kept .exit)) ⌝ }
+    ensures { λ _. ⌜ (writerIn (now (kept .exit)) ≡ recordAfter (now (kept .entry)) (cueOf (writerIn (now (kept .entry))) c)) × (length (now (kept .exit)) ≡ length (now (kept .entry))) ⌝ }
 {
     let w = writer_in(kept);
     if w.slot == 0 {
@@ -132,9 +137,11 @@ pub fn push_kept(
     last: bool,
     lent: &mut [u8],
 ) -> KeptCall
+    requires { ⌜ (left .length < 4294967296) × (right .length < 4294967296) ⌝ }
     ensures { λ q. ⌜ q ≡ onKept (now (kept .entry)) (pushOf (writerIn (now (kept .entry))) (pushArgs channels left right (now («left_data» .entry)) (now («right_data» .entry)) last) (now (lent .entry))) ⌝ }
     ensures { λ _. ⌜ now (lent .exit) ≡ lentAfter (now (kept .entry)) (now (lent .entry)) (pushOf (writerIn (now (kept .entry))) (pushArgs channels left right (now («left_data» .entry)) (now («right_data» .entry)) last) (now (lent .entry))) ⌝ }
     ensures { λ q. ⌜ Leaves (q .number) (now (kept .entry)) (now (kept .exit)) ⌝ }
+    ensures { λ _. ⌜ SameLength (now (kept .entry)) (now (kept .exit)) × (writerIn (now (kept .exit)) ≡ recordAfter (now (kept .entry)) (pushOf (writerIn (now (kept .entry))) (pushArgs channels left right (now («left_data» .entry)) (now («right_data» .entry)) last) (now (lent .entry)))) ⌝ }
 {
     let s = stream_in(kept);
     if s.slot == 0 {
@@ -192,6 +199,7 @@ pub fn finish_kept(kept: &mut [u8], lent: &mut [u8]) -> KeptCall
     ensures { λ q. ⌜ q ≡ finishedKept (now (kept .entry)) (finishOf (writerIn (now (kept .entry))) (now (lent .entry))) ⌝ }
     ensures { λ _. ⌜ now (lent .exit) ≡ lentAfter (now (kept .entry)) (now (lent .entry)) (finishOf (writerIn (now (kept .entry))) (now (lent .entry))) ⌝ }
     ensures { λ q. ⌜ Leaves (q .number) (now (kept .entry)) (now (kept .exit)) ⌝ }
+    ensures { λ _. ⌜ SameLength (now (kept .entry)) (now (kept .exit)) × (writerIn (now (kept .exit)) ≡ recordAfter (now (kept .entry)) (finishOf (writerIn (now (kept .entry))) (now (lent .entry)))) ⌝ }
 {
     let w = writer_in(kept);
     if w.slot == 0 {

@@ -37,11 +37,11 @@ use Rattle.kept_reader.proofs.KeptReads.{word-in, first-offset, offsets
 -- ---- The same bytes read the same
 
 -- the same bytes from one place up to another
-abbrev Agree : (s t : List ℕ) (from to : ℕ) → Type 0
+abbrev pub Agree : (s t : List ℕ) (from to : ℕ) → Type 0
 Agree s t from to = (i : ℕ) → from ≤ i → i < to → getD s i 0 ≡ getD t i 0
 
 module _ (s t : List ℕ) (from to : ℕ) (a : Agree s t from to) where
-  u16-same : (at : ℕ) → from ≤ at → at + 2 ≤ to → u16At s at ≡ u16At t at
+  pub u16-same : (at : ℕ) → from ≤ at → at + 2 ≤ to → u16At s at ≡ u16At t at
   unfolding u16At
   u16-same at l h = rw (a at l (omega arith), a (at + 1) (omega arith) (omega arith))
 

@@ -49,7 +49,7 @@ fn coefficients_in(s: &[u8], at: usize) -> [i16; 16]
 
 pub fn side_in(s: &[u8], at: usize) -> ChannelBlock
     requires { ⌜ at < 4096 ⌝ }
-    ensures { λ b. ⌜ b ≡ sideIn (now (s .entry)) at ⌝ }
+    ensures { λ b. ⌜ (b ≡ sideIn (now (s .entry)) at) × (b .length < 4294967296) ⌝ }
 {
     let coefficients = coefficients_in(s, at + 8);
     let context = FrameContext {

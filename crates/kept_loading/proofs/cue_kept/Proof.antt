@@ -4,9 +4,11 @@ use native.Mathlib.Omega.{arith}
 use borrow.Author.Tests.{ne-eqb}
 use Rattle.writer.specs.Calls.{cueOf, cued}
 use Rattle.writer.specs.declared.HpsWriter.{HpsWriter}
+use Rattle.writer.specs.declared.Cued.{Cued}
 use Rattle.kept_writer.specs.KeptWriter.{streamIn, writerIn}
 use Rattle.kept_writer.proofs.KeptLaws.{kept-good}
-use Rattle.kept_loading.proofs.CallLaws.{no-record, cue-refused, cue-accepted}
+use Rattle.kept_loading.proofs.CallLaws.{no-record, none-after, cue-refused, cue-leaves, cue-accepted}
+use Rattle.kept_loading.proofs.AfterLaws.{holds, cue-after}
 use borrow.Author.Needs.{needs}
 use Rattle.kept_loading.proofs.cue_kept.Statement.{statement}
 use Rattle.kept_loading.proofs.cue_kept.Tie as tie
@@ -31,7 +33,7 @@ returns c =
     let s = c .before .before .before .before .before .before in
     let k = s .args .kept .now in
     let h : streamIn k .slot ≡ 0 = sym (ap (λ (m : HpsWriter). m .slot) (c .before .before .before .writer-in .ensures)) ∙ c .before .if1 .taken in
-    (no-record k (s .args .kept .now) (cueOf (writerIn k) (s .args .c)) h _ (c .refused .ensures) .0, λ _. refl)
+    (no-record k (s .args .kept .now) (cueOf (writerIn k) (s .args .c)) h _ (c .refused .ensures) .0, (λ _. refl, (none-after k (cueOf (writerIn k) (s .args .c)) h, refl)))
 
 cue-requires : tie.Need-cue-requires
 cue-requires c κs = rw (c .before .before .writer-in .ensures) (kept-good _)
@@ -46,7 +48,12 @@ enum-told : tie.Need-enum-told
 enum-told c = search needs
 
 put-table-requires : tie.Need-put-table-requires
-put-table-requires c κs = search needs
+put-table-requires c κs =
+    let u = c .before .before .before .before .before in
+    let e = u .before in
+    let k = e .before .before .before .before .before .args .kept .now in
+    let some : streamIn k .slot ≡ 0 → ⊥ = λ z. e .if1 .left (ap (λ (m : HpsWriter). m .slot) (e .before .before .writer-in .ensures) ∙ z) in
+    (search needs, holds k some .room)
 
 refused-requires-3 : tie.Need-refused-requires-3
 refused-requires-3 c κs = search needs
@@ -61,22 +68,26 @@ returns-2 c =
     let s = e .before .before .before .before .before in
     let k = s .args .kept .now in
     let some : streamIn k .slot ≡ 0 → ⊥ = λ z. e .if1 .left (ap (λ (m : HpsWriter). m .slot) (e .before .before .writer-in .ensures) ∙ z) in
+    let told : u .cue .result ≡ cued (cueOf (writerIn k) (s .args .c)) = u .cue .ensures .0 ∙ ap (λ (m : HpsWriter). cued (cueOf m (s .args .c))) (e .before .before .writer-in .ensures) in
+    let r = c .before .before .reply .given .1 in
     rw (ne-eqb (streamIn k .slot) 0 some)
-    (c .refused2 .ensures ∙ cue-refused (writerIn k) (s .args .c) _ (u .cue .ensures .0 ∙ ap (λ (m : HpsWriter). cued (cueOf m (s .args .c))) (e .before .before .writer-in .ensures)) _ (c .before .before .reply .given .1), λ _. refl)
+    (c .refused2 .ensures ∙ cue-refused (writerIn k) (s .args .c) (u .cue .result) told _ r, (λ _. refl, (sym (cue-leaves (writerIn k) (s .args .c) (u .cue .result) told _ r), refl)))
 
 same-length-3 : tie.Need-same-length-3
 same-length-3 c = search needs
 
 returns-3 : tie.Need-returns-3
 returns-3 c =
-    let d = c .before .before .before .before .before .before in
+    let p = c .before .before .before in
+    let d = p .before .before .before in
     let u = d .before .before .before in
     let e = u .before in
     let s = e .before .before .before .before .before in
     let k = s .args .kept .now in
     let some : streamIn k .slot ≡ 0 → ⊥ = λ z. e .if1 .left (ap (λ (m : HpsWriter). m .slot) (e .before .before .writer-in .ensures) ∙ z) in
+    let told : u .cue .result ≡ cued (cueOf (writerIn k) (s .args .c)) = u .cue .ensures .0 ∙ ap (λ (m : HpsWriter). cued (cueOf m (s .args .c))) (e .before .before .writer-in .ensures) in
     rw (ne-eqb (streamIn k .slot) 0 some)
-    (c .refused3 .ensures ∙ cue-accepted (writerIn k) (s .args .c) _ (u .cue .ensures .0 ∙ ap (λ (m : HpsWriter). cued (cueOf m (s .args .c))) (e .before .before .writer-in .ensures)) _ (d .enum-told .given .1), λ h. absurd (omega (arith, ap (λ (m : KeptCall). m .number) (c .refused3 .ensures))))
+    (c .refused3 .ensures ∙ cue-accepted (writerIn k) (s .args .c) (u .cue .result) told _ (d .enum-told .given .1), (λ h. absurd (omega (arith, ap (λ (m : KeptCall). m .number) (c .refused3 .ensures))), (cue-after k (s .args .c) (u .cue .result .writer) (p .put-table .last .0) some (ap (λ (q : Cued). q .writer) told) (p .put-table .ensures .0) (p .put-table .ensures .1), search needs)))
 
 pub cue-kept-spec : {M : Type 1} → statement M
 cue-kept-spec =

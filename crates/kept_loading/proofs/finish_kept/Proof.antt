@@ -1,10 +1,14 @@
 use mathlib.Core.Path.{_≡_, refl, ap, sym, _∙_}
 use native.Mathlib.Omega.{arith}
+use lib.ListN.{length}
+use Rattle.puts.proofs.PutLaws.{putAt-length}
 use borrow.Author.Tests.{eq-eqb, ne-eqb}
 use Rattle.writer.specs.Calls.{finishOf, finished}
 use Rattle.writer.specs.declared.HpsWriter.{HpsWriter}
 use Rattle.kept_writer.specs.KeptWriter.{streamIn, writerIn}
 use Rattle.kept_writer.proofs.KeptLaws.{kept-good}
+use Rattle.writer.specs.declared.Finished.{Finished}
+use Rattle.kept_loading.proofs.BackLaws.{finish-after, finish-left}
 use Rattle.kept_loading.proofs.CallLaws.{finish-told, finish-given}
 use borrow.Author.Needs.{needs}
 use Rattle.kept_loading.proofs.finish_kept.Statement.{statement}
@@ -30,7 +34,7 @@ returns c =
     let s = c .before .before .before .before .before .before .before in
     let k = s .args .kept .now in
     let h : streamIn k .slot ≡ 0 = sym (ap (λ (m : HpsWriter). m .slot) (c .before .before .before .writer-in .ensures)) ∙ c .before .if1 .taken in
-    rw (eq-eqb (streamIn k .slot) 0 h) (c .refused .ensures, (refl, λ _. refl))
+    rw (eq-eqb (streamIn k .slot) 0 h) (c .refused .ensures, (refl, (λ _. refl, (refl, refl))))
 
 finish-requires : tie.Need-finish-requires
 finish-requires c κs = rw (c .before .before .before .writer-in .ensures) (kept-good _)
@@ -61,8 +65,11 @@ returns-2 c =
     let k = s .args .kept .now in
     let some : streamIn k .slot ≡ 0 → ⊥ = λ z. e .if1 .left (ap (λ (m : HpsWriter). m .slot) (e .before .before .writer-in .ensures) ∙ z) in
     let w = e .before .before .writer-in .ensures in
+    let o = finishOf (writerIn k) (s .args .lent .now) in
+    let q : u .finish .result ≡ finished o = u .finish .ensures .0 ∙ ap (λ (m : HpsWriter). finished (finishOf m (s .args .lent .now))) w in
+    let r = c .before .before .reply .given .1 in
     rw (ne-eqb (streamIn k .slot) 0 some)
-    (c .refused2 .ensures ∙ finish-told (finishOf (writerIn k) (s .args .lent .now)) _ (u .finish .ensures .0 ∙ ap (λ (m : HpsWriter). finished (finishOf m (s .args .lent .now))) w) _ (c .before .before .reply .given .1), (u .finish .ensures .1 .0 ∙ ap (λ (m : HpsWriter). finishOf m (s .args .lent .now) .lent) w, λ _. refl))
+    (c .refused2 .ensures ∙ finish-told o _ q _ r, (u .finish .ensures .1 .0 ∙ ap (λ (m : HpsWriter). finishOf m (s .args .lent .now) .lent) w, (λ _. refl, (refl, finish-left k (s .args .lent .now) _ (sym (ap (λ (f : Finished). f .reply) q) ∙ r)))))
 
 same-length-4 : tie.Need-same-length-4
 same-length-4 c = search needs
@@ -79,8 +86,11 @@ returns-3 c =
     let k = s .args .kept .now in
     let some : streamIn k .slot ≡ 0 → ⊥ = λ z. e .if1 .left (ap (λ (m : HpsWriter). m .slot) (e .before .before .writer-in .ensures) ∙ z) in
     let w = e .before .before .writer-in .ensures in
+    let o = finishOf (writerIn k) (s .args .lent .now) in
+    let q : u .finish .result ≡ finished o = u .finish .ensures .0 ∙ ap (λ (m : HpsWriter). finished (finishOf m (s .args .lent .now))) w in
+    let r = d .reply2 .given .1 in
     rw (ne-eqb (streamIn k .slot) 0 some)
-    (finish-given (finishOf (writerIn k) (s .args .lent .now)) _ (u .finish .ensures .0 ∙ ap (λ (m : HpsWriter). finished (finishOf m (s .args .lent .now))) w) _ (d .reply2 .given .1), (u .finish .ensures .1 .0 ∙ ap (λ (m : HpsWriter). finishOf m (s .args .lent .now) .lent) w, λ h. absurd (omega arith)))
+    (finish-given o _ q _ r, (u .finish .ensures .1 .0 ∙ ap (λ (m : HpsWriter). finishOf m (s .args .lent .now) .lent) w, (λ h. absurd (omega arith), (ap length (c .before .before .put-finished .ensures) ∙ putAt-length _ _ _, ap writerIn (c .before .before .put-finished .ensures) ∙ finish-after k (s .args .lent .now) _ some (sym (ap (λ (f : Finished). f .reply) q) ∙ r)))))
 
 pub finish-kept-spec : {M : Type 1} → statement M
 finish-kept-spec =

@@ -1,4 +1,4 @@
-use Prim.Native.Nat.{ℕ, _+_, _*_}
+use Prim.Native.Nat.{_<_}
 use mathlib.Core.Path.{_≡_, refl, ap, sym, _∙_}
 use mathlib.Core.Bool.{Bool}
 use native.Mathlib.Omega.{arith}
@@ -8,14 +8,18 @@ use Rattle.writer.specs.Loading.{Push, anyLoop}
 use Rattle.writer.specs.Calls.{pushOf}
 use Rattle.push_due.specs.PushDue.{pushArgs}
 use Rattle.push_plan.specs.declared.Stream.{Stream}
-use Rattle.push_plan.specs.PushPlan.{endFrom, loopFrom, planOf, advanced, writerOf}
+use Rattle.push_plan.specs.PushPlan.{endFrom, loopFrom, planOf, advanced}
 use Rattle.layout.specs.Puts.{putAt}
+use Rattle.puts.proofs.PutLaws.{putAt-length}
 use Rattle.taking.specs.Taking.{filledBytes}
 use Rattle.kept_sides.specs.KeptSides.{tableIn}
 use Rattle.kept_writer.specs.KeptWriter.{streamIn, writerIn, takenIn, heldIn}
 use Rattle.kept_writer.proofs.KeptLaws.{kept-good, loop-same}
-use Rattle.block_writer.proofs.PushLaws.{push-refused, push-accepted, sound, to-within, few-points, are-taken, Worked, due-is, passes, starts, totals, sized, room, after-is, bytes-are}
-use Rattle.kept_loading.proofs.CallLaws.{no-record, gave}
+use Rattle.block_writer.proofs.PushLaws.{push-refused, push-accepted, sound, to-within, few-points, are-taken, Worked, due-is, passes, starts, totals, sized, room, bytes-are}
+use Rattle.kept_loading.proofs.CallLaws.{no-record, gave, none-after, some-after}
+use Rattle.kept_loading.specs.KeptLoading.{pushedBytes}
+use Rattle.kept_loading.proofs.AfterLaws.{holds}
+use Rattle.kept_loading.proofs.BackLaws.{SideFits, signed-field, push-after, push-left}
 use borrow.Author.Needs.{needs}
 use Rattle.kept_loading.proofs.push_kept.Statement.{statement}
 use Rattle.kept_loading.proofs.push_kept.Tie as tie
@@ -79,6 +83,36 @@ worked p =
 some : (c : tie.Else1) → streamIn (start c .args .kept .now) .slot ≡ 0 → ⊥
 some c z = c .if1 .left (ap (λ (m : Stream). m .slot) (stream c) ∙ z)
 
+channels : (c : tie.Else1) → c .before .before .stream-in .result .channels < 18446744073709551616
+channels c = search needs
+
+-- the sides are values of their types
+left-fits : (z : tie.Start) → SideFits (z .args .left)
+left-fits z =
+    record {
+      typed = record {
+        rate = search needs;
+        addresses = search needs;
+        coefficients = record { sixteen = search needs; each = search (signed-field, needs) };
+        gain = search needs;
+        context = record { scale = search needs; last = search needs; oldest = search needs };
+      };
+      short = z .pre .0;
+    }
+
+right-fits : (z : tie.Start) → SideFits (z .args .right)
+right-fits z =
+    record {
+      typed = record {
+        rate = search needs;
+        addresses = search needs;
+        coefficients = record { sixteen = search needs; each = search (signed-field, needs) };
+        gain = search needs;
+        context = record { scale = search needs; last = search needs; oldest = search needs };
+      };
+      short = z .pre .1;
+    }
+
 -- ---- The needs
 
 stream-in-requires : tie.Need-stream-in-requires
@@ -96,7 +130,7 @@ returns c =
     let k = s .args .kept .now in
     let h : streamIn k .slot ≡ 0 = sym (ap (λ (m : Stream). m .slot) (c .before .before .before .stream-in .ensures)) ∙ c .before .if1 .taken in
     let q = no-record k (s .args .lent .now) (pushOf (writerIn k) (pushed s) (s .args .lent .now)) h _ (c .refused .ensures) in
-    (q .0, (q .1, λ _. refl))
+    (q .0, (q .1, (λ _. refl, (refl, none-after k (pushOf (writerIn k) (pushed s) (s .args .lent .now)) h))))
 
 block-end-requires : tie.Need-block-end-requires
 block-end-requires c κs = let g = kept-good (start c .args .kept .now) in rw (stream c) (omega (arith, g .base, g .many))
@@ -127,7 +161,7 @@ returns-2 c =
     let k = s .args .kept .now in
     let q = push-refused (writerIn k) (pushed s) (s .args .lent .now) _ (due-is (worked p)) (c .before .if2 .taken) _ refl in
     let r = gave k (s .args .lent .now) (pushOf (writerIn k) (pushed s) (s .args .lent .now)) (some e) _ _ q in
-    (c .refused2 .ensures ∙ r .0, (r .1, λ _. refl))
+    (c .refused2 .ensures ∙ r .0, (r .1, (λ _. refl, (refl, some-after k (pushOf (writerIn k) (pushed s) (s .args .lent .now)) (some e) _ (push-left k (pushed s) (s .args .lent .now) _ (due-is (worked p)) (c .before .if2 .taken))))))
 
 put-header-requires : tie.Need-put-header-requires
 put-header-requires c κs = search needs
@@ -169,7 +203,9 @@ advance-requires c κs =
     )
 
 put-pushed-requires : tie.Need-put-pushed-requires
-put-pushed-requires c κs = search needs
+put-pushed-requires c κs =
+    let e = c .before .before .before .before .before .before .before .before .before .before .before .before .before .before .before .before .before .before .before .before .before .before .before .before in
+    omega (arith, holds (start e .args .kept .now) (some e) .room)
 
 same-length-3 : tie.Need-same-length-3
 same-length-3 c = search needs
@@ -191,7 +227,12 @@ returns-3 c =
     let b = bytes-are w z _ _ _ (c .before .before .before .before .before .before .before .before .before .before .before .before .before .before .before .before .put-header .ensures) put (c .before .before .before .before .before .before .before .put-data .ensures) in
     let q = push-accepted (writerIn k) (pushed s) (s .args .lent .now) _ (due-is w) z _ _ _ refl (sized w z) (room w z .1) b in
     let r = gave k (s .args .lent .now) (pushOf (writerIn k) (pushed s) (s .args .lent .now)) (some e) _ _ q in
-    (ap (λ (m : Stream). record { number = 0; offset = m .offset; length = p .plan-push .result .size }) (stream e) ∙ r .0, (r .1, λ h. absurd (omega arith)))
+    let t = p .before .before .before .take-kept .result in
+    let end = p .before .before .before .before .before .block-end .result in
+    let next : Stream → Stream = λ m. advanced m t end (p .plan-push .result .size) (p .plan-push .result .loopat) (s .args .left) (s .args .right) (s .args .last) in
+    let after = c .before .before .put-pushed .ensures ∙ ap (λ (m : Stream). putAt k 0 (pushedBytes m)) (c .before .before .before .before .advance .ensures ∙ ap next (stream e)) in
+    let long : streamIn k .channels < 18446744073709551616 = omega (arith, channels e, ap (λ (m : Stream). m .channels) (stream e)) in
+    (ap (λ (m : Stream). record { number = 0; offset = m .offset; length = p .plan-push .result .size }) (stream e) ∙ r .0, (r .1, (λ h. absurd (omega arith), (ap length after ∙ putAt-length _ _ _, some-after k (pushOf (writerIn k) (pushed s) (s .args .lent .now)) (some e) _ (ap writerIn after ∙ push-after k (some e) w z (left-fits s) (right-fits s) long)))))
 
 pub push-kept-spec : {M : Type 1} → statement M
 push-kept-spec =

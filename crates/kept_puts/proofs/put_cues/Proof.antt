@@ -1,8 +1,7 @@
-use Prim.Native.Nat.{_-_, _≤_}
-use mathlib.Core.Path.{_≡_}
+use Prim.Native.Nat.{_-_}
 use native.Mathlib.Omega.{arith}
-use lib.ListN.{length}
 use borrow.Author.Needs.{needs}
+use Rattle.kept_puts.proofs.TableLaws.{Entries, entries-none, entries-more, entries-all}
 use Rattle.kept_puts.proofs.put_cues.Statement.{statement}
 use Rattle.kept_puts.proofs.put_cues.Tie as tie
 use Rattle.kept_puts.proofs.put_cues.Reads as reads
@@ -10,13 +9,13 @@ use Rattle.kept_puts.proofs.put_cues.Lts as lts
 use Rattle.kept_puts.proofs.put_cue.Reads as put-cue-reads
 
 abbrev Inv-loop : tie.InvT-loop
-Inv-loop buf₀ at n cues i₀ buf i = (length buf ≡ length buf₀) × (i ≤ n)
+Inv-loop buf₀ at n cues i₀ buf i = Entries buf₀ at cues n buf i
 
 abbrev μ-loop : tie.MeasureT-loop
 μ-loop buf₀ at n cues i₀ buf i = n - i
 
 loop-holds : tie.Need-loop-holds Inv-loop μ-loop
-loop-holds c = search needs
+loop-holds c = search (entries-none, needs)
 
 mul-cue : tie.Need-mul-cue Inv-loop μ-loop
 mul-cue c = search needs
@@ -40,13 +39,13 @@ loop-less : tie.Need-loop-less Inv-loop μ-loop
 loop-less c = search needs
 
 loop-again : tie.Need-loop-again Inv-loop μ-loop
-loop-again c = search needs
+loop-again c = search (entries-more, needs)
 
 same-length : tie.Need-same-length Inv-loop μ-loop
 same-length c = search needs
 
 returns : tie.Need-returns Inv-loop μ-loop
-returns c = search needs
+returns c = entries-all _ _ _ _ _ _ (c .before .loop .inv) (omega arith)
 
 pub put-cues-spec : {M : Type 1} → statement M
 put-cues-spec =

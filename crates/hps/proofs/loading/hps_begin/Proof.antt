@@ -1,4 +1,4 @@
-use mathlib.Core.Path.{_≡_, refl, ap, sym, _∙_}
+use mathlib.Core.Path.{_≡_, refl, ap, _∙_}
 use borrow.Author.Tests.{lt-ltb, le-ltb}
 use Rattle.kept_loading.specs.declared.KeptCall.{KeptCall}
 use Rattle.hps.proofs.ExportedLaws.{given, left}
@@ -8,7 +8,7 @@ use Rattle.layout.specs.Choice.{pick}
 use Rattle.writer.specs.Calls.{beginOf}
 use Rattle.writer.specs.declared.Looping.{Looping}
 use Rattle.kept_writer.specs.KeptWriter.{loaderSize}
-use Rattle.kept_loading.specs.KeptLoading.{callOf, whereRoom}
+use Rattle.kept_loading.specs.KeptLoading.{callOf, whereRoom, recordBegun}
 use borrow.Author.Needs.{needs}
 use Rattle.hps.proofs.loading.hps_begin.Statement.{statement}
 use Rattle.hps.proofs.loading.hps_begin.Tie as tie
@@ -18,7 +18,7 @@ use Rattle.kept_loading.proofs.begin_kept.Reads as begin-kept-reads
 use Rattle.kept_writer.proofs.loader.mode_of.Reads as mode-of-reads
 
 returns : tie.Need-returns
-returns c = rw (lt-ltb 2 (c .before .before .before .args .mode) (c .if1 .taken)) (refl, ((refl, refl), (refl, λ _. refl)))
+returns c = rw (lt-ltb 2 (c .before .before .before .args .mode) (c .if1 .taken)) (refl, ((refl, refl), ((refl, λ _. refl), (refl, refl))))
 
 mode-of-requires : tie.Need-mode-of-requires
 mode-of-requires c κs = search needs
@@ -41,7 +41,7 @@ returns-2 c =
     let a = s .args in
     let q : b .begin-kept .result ≡ _ = b .begin-kept .ensures .0 ∙ ap (λ (x : Looping). whereRoom (a .kept .now) (callOf (beginOf (a .slot) (a .channels) x (a .lent .now)))) (m .mode-of .ensures) in
     let l = b .begin-kept .ensures .1 .0 ∙ ap (λ (x : Looping). pick (ltb (length (a .kept .now)) loaderSize) (a .lent .now) (beginOf (a .slot) (a .channels) x (a .lent .now) .lent)) (m .mode-of .ensures) in
-    rw (le-ltb 2 (a .mode) (e .if1 .left)) (ap (λ (x : KeptCall). x .number) q, ((ap (λ (x : KeptCall). x .offset) q ∙ given _ _ _ (c .if2 .taken), ap (λ (x : KeptCall). x .length) q ∙ given _ _ _ (c .if2 .taken)), (l, b .begin-kept .ensures .1 .1)))
+    rw (le-ltb 2 (a .mode) (e .if1 .left)) (ap (λ (x : KeptCall). x .number) q, ((ap (λ (x : KeptCall). x .offset) q ∙ given _ _ _ (c .if2 .taken), ap (λ (x : KeptCall). x .length) q ∙ given _ _ _ (c .if2 .taken)), ((l, b .begin-kept .ensures .1 .1 .0), (b .begin-kept .ensures .1 .1 .1 .0, b .begin-kept .ensures .1 .1 .1 .1 ∙ ap (λ (x : Looping). recordBegun (a .kept .now) (beginOf (a .slot) (a .channels) x (a .lent .now))) (m .mode-of .ensures)))))
 
 same-length-3 : tie.Need-same-length-3
 same-length-3 c = search needs
@@ -58,7 +58,7 @@ returns-3 c =
     let a = s .args in
     let q : b .begin-kept .result ≡ _ = b .begin-kept .ensures .0 ∙ ap (λ (x : Looping). whereRoom (a .kept .now) (callOf (beginOf (a .slot) (a .channels) x (a .lent .now)))) (m .mode-of .ensures) in
     let l = b .begin-kept .ensures .1 .0 ∙ ap (λ (x : Looping). pick (ltb (length (a .kept .now)) loaderSize) (a .lent .now) (beginOf (a .slot) (a .channels) x (a .lent .now) .lent)) (m .mode-of .ensures) in
-    rw (le-ltb 2 (a .mode) (e .if1 .left)) (ap (λ (x : KeptCall). x .number) q, ((left _ _ _ (c .if2 .left), left _ _ _ (c .if2 .left)), (l, b .begin-kept .ensures .1 .1)))
+    rw (le-ltb 2 (a .mode) (e .if1 .left)) (ap (λ (x : KeptCall). x .number) q, ((left _ _ _ (c .if2 .left), left _ _ _ (c .if2 .left)), ((l, b .begin-kept .ensures .1 .1 .0), (b .begin-kept .ensures .1 .1 .1 .0, b .begin-kept .ensures .1 .1 .1 .1 ∙ ap (λ (x : Looping). recordBegun (a .kept .now) (beginOf (a .slot) (a .channels) x (a .lent .now))) (m .mode-of .ensures)))))
 
 pub hps-begin-spec : {M : Type 1} → statement M
 hps-begin-spec =

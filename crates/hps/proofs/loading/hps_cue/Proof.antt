@@ -4,7 +4,7 @@ use Rattle.kept_loading.specs.declared.KeptCall.{KeptCall}
 use Rattle.writer.specs.Calls.{cueOf}
 use Rattle.writer.specs.declared.CueKind.{CueKind}
 use Rattle.kept_writer.specs.KeptWriter.{writerIn}
-use Rattle.kept_loading.specs.KeptLoading.{onKept}
+use Rattle.kept_loading.specs.KeptLoading.{onKept, recordAfter}
 use borrow.Author.Needs.{needs}
 use Rattle.hps.proofs.loading.hps_cue.Statement.{statement}
 use Rattle.hps.proofs.loading.hps_cue.Tie as tie
@@ -14,7 +14,7 @@ use Rattle.kept_loading.proofs.cue_kept.Reads as cue-kept-reads
 use Rattle.kept_sides.proofs.kind_of.Reads as kind-of-reads
 
 returns : tie.Need-returns
-returns c = rw (lt-ltb 2 (c .before .before .args .kind) (c .if1 .taken)) (refl, λ _. refl)
+returns c = rw (lt-ltb 2 (c .before .before .args .kind) (c .if1 .taken)) (refl, (λ _. refl, (refl, refl)))
 
 kind-of-requires : tie.Need-kind-of-requires
 kind-of-requires c κs = search needs
@@ -31,8 +31,10 @@ returns-2 c =
     let k = u .before .before in
     let e = k .before in
     let a = e .before .before .args in
-    let q = u .cue-kept .ensures .0 ∙ ap (λ (x : CueKind). onKept (a .kept .now) (cueOf (writerIn (a .kept .now)) (record { start = a .start; kind = x; name = a .name }))) (k .kind-of .ensures) in
-    rw (le-ltb 2 (a .kind) (e .if1 .left)) (ap (λ (x : KeptCall). x .number) q, u .cue-kept .ensures .1)
+    let w = writerIn (a .kept .now) in
+    let q = u .cue-kept .ensures .0 ∙ ap (λ (x : CueKind). onKept (a .kept .now) (cueOf w (record { start = a .start; kind = x; name = a .name }))) (k .kind-of .ensures) in
+    let r = u .cue-kept .ensures .1 .1 .0 ∙ ap (λ (x : CueKind). recordAfter (a .kept .now) (cueOf w (record { start = a .start; kind = x; name = a .name }))) (k .kind-of .ensures) in
+    rw (le-ltb 2 (a .kind) (e .if1 .left)) (ap (λ (x : KeptCall). x .number) q, (u .cue-kept .ensures .1 .0, (r, u .cue-kept .ensures .1 .1 .1)))
 
 pub hps-cue-spec : {M : Type 1} → statement M
 hps-cue-spec =

@@ -1,4 +1,4 @@
-use mathlib.Core.Path.{_≡_, refl, ap, sym, _∙_}
+use mathlib.Core.Path.{ap, _∙_}
 use Rattle.kept_loading.specs.declared.KeptCall.{KeptCall}
 use Rattle.hps.proofs.ExportedLaws.{given, left}
 use borrow.Author.Needs.{needs}
@@ -21,7 +21,7 @@ returns : tie.Need-returns
 returns c =
     let u = c .before .before .before .before .before .before in
     let q = u .finish-kept .ensures .0 in
-    (ap (λ (x : KeptCall). x .number) q, (ap (λ (x : KeptCall). x .length) q ∙ given _ _ _ (c .if1 .taken), (u .finish-kept .ensures .1 .0, u .finish-kept .ensures .1 .1)))
+    (ap (λ (x : KeptCall). x .number) q, (ap (λ (x : KeptCall). x .length) q ∙ given _ _ _ (c .if1 .taken), ((u .finish-kept .ensures .1 .0, u .finish-kept .ensures .1 .1 .0), u .finish-kept .ensures .1 .1 .1)))
 
 same-length-3 : tie.Need-same-length-3
 same-length-3 c = search needs
@@ -33,7 +33,7 @@ returns-2 : tie.Need-returns-2
 returns-2 c =
     let u = c .before .before .before .before .before .before in
     let q = u .finish-kept .ensures .0 in
-    (ap (λ (x : KeptCall). x .number) q, (left _ _ _ (c .if1 .left), (u .finish-kept .ensures .1 .0, u .finish-kept .ensures .1 .1)))
+    (ap (λ (x : KeptCall). x .number) q, (left _ _ _ (c .if1 .left), ((u .finish-kept .ensures .1 .0, u .finish-kept .ensures .1 .1 .0), u .finish-kept .ensures .1 .1 .1)))
 
 pub hps-finish-spec : {M : Type 1} → statement M
 hps-finish-spec =

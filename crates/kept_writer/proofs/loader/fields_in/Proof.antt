@@ -78,8 +78,8 @@ returns c =
       c .before .before .before .before .before .before .before .before .before .before .before .before .before .before .long .ensures,
       c .before .before .before .long8 .ensures,
       c .before .before .long9 .ensures,
-      c .before .before .before .before .before .before .before .before .before .before .before .before .side-in .ensures,
-      c .before .before .before .before .before .before .before .before .before .before .before .side-in2 .ensures,
+      c .before .before .before .before .before .before .before .before .before .before .before .before .side-in .ensures .0,
+      c .before .before .before .before .before .before .before .before .before .before .before .side-in2 .ensures .0,
       c .before .word3 .ensures,
       c .word4 .ensures,
     )

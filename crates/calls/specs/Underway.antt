@@ -1,21 +1,7 @@
 -- What holds of every loading under way.
-use Prim.Native.Nat.{_≤_}
-use mathlib.Core.Path.{_≡_}
-use lib.ListN.{length}
 use Rattle.writer.specs.Calls.{Good}
-use Rattle.calls.specs.declared.noted.Noted.{Noted}
-use Rattle.calls.specs.declared.made.Made.{Made}
+use Rattle.single_calls.specs.Made.{Listed}
 use Rattle.calls.specs.declared.loading.Loading.{Loading}
-
--- No more writes are noted than there is room for.
-pub record Listed (j : Noted) : Type 0 where
-  pub few : j .count ≤ 516
-  pub room : length (j .places) ≡ 516
-
--- After a call the record is good, and the writes are three at most.
-pub record After (m : Made) : Type 0 where
-  pub good : Good (m .writer)
-  pub few : m .many ≤ 3
 
 pub record Underway (st : Loading) : Type 0 where
   pub good : Good (st .writer)

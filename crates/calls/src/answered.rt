@@ -1,6 +1,6 @@
 // What is told of a call.
-use crate::telling::print_numbers;
 use script::lines::Kind;
+use single_calls::telling::print_numbers;
 use writer::Place;
 use writer::Reply;
 ghost use Prim.Native.Nat.{_≤_};

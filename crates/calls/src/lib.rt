@@ -1,7 +1,3 @@
 // A script's calls, carried out one after the other on the writer's record; what each answers is printed, and the writes that it hands out are noted.
-pub mod telling; // telling.rt: lines of numbers
-pub mod noted; // noted.rt: writes noted for later
-pub mod pushing; // pushing.rt: the push whose CHAN lines are being read
-pub mod made; // made.rt: the calls
 pub mod answered; // answered.rt: what is told of a call
 pub mod loading; // loading.rt: a script's lines one after the other

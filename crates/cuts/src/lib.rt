@@ -1,8 +1,6 @@
 // What `cut` answers: a script's calls on an earlier slot, and the listings of every moment.
 use calls::loading::Loading;
 use calls::loading::load;
-use calls::noted::Noted;
-use calls::telling::print_numbers;
 use io::large_buffer;
 use io::print_decimal;
 use io::write_all;
@@ -11,6 +9,8 @@ use listing::listing::KEY_LIMIT;
 use printing::print_listing;
 use puts::put_bytes;
 use script::whole::wrong_line;
+use single_calls::noted::Noted;
+use single_calls::telling::print_numbers;
 use tearing::slot_at;
 
 pub mod files; // files.rt: files by name
@@ -19,7 +19,8 @@ pub mod times; // times.rt: the runs of moments with the same listing
 use times::print_times;
 ghost use mathlib.Core.Path.{_≡_};
 ghost use lib.ListN.{length};
-ghost use Rattle.calls.specs.Underway.{Listed, Underway};
+ghost use Rattle.calls.specs.Underway.{Underway};
+ghost use Rattle.single_calls.specs.Made.{Listed};
 
 // What is asked: all, or the listing of one moment.
 pub enum Ask {

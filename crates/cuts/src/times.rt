@@ -1,12 +1,12 @@
 // The runs of moments with the same listing.
-use calls::noted::Noted;
-use calls::telling::print_numbers;
 use printing::print_listing;
 use printing::same_listing;
 use puts::put_bytes;
+use single_calls::noted::Noted;
+use single_calls::telling::print_numbers;
 use tearing::least;
 use tearing::reach_next;
-ghost use Rattle.calls.specs.Underway.{Listed};
+ghost use Rattle.single_calls.specs.Made.{Listed};
 
 // The first moment of the run, and the moment that the slot is at.
 struct Run {

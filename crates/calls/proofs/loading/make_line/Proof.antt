@@ -5,7 +5,7 @@ use Rattle.calls.proofs.loading.make_line.Statement.{statement}
 use Rattle.calls.proofs.loading.make_line.Tie as tie
 use Rattle.calls.proofs.loading.make_line.Reads as reads
 use Rattle.calls.proofs.loading.make_line.Lts as lts
-use Rattle.calls.proofs.made.make.Reads as make-reads
+use Rattle.single_calls.proofs.made.make.Reads as make-reads
 use Rattle.tearing.proofs.least.Reads as least-reads
 
 -- src/loading.rt:92:9

@@ -1,8 +1,8 @@
 use Prim.Native.Nat.{ℕ}
 use mathlib.Core.Path.{sym}
 use lib.ListN.{length-replicate}
-use Rattle.calls.proofs.made.data_room.Statement.{statement}
-use Rattle.calls.proofs.made.data_room.Tie as tie
+use Rattle.single_calls.proofs.made.data_room.Statement.{statement}
+use Rattle.single_calls.proofs.made.data_room.Tie as tie
 
 returns : tie.Need-returns
 returns c = sym (length-replicate {A = ℕ} 524288 0)

@@ -1,10 +1,10 @@
 use mathlib.Core.Path.{sym}
 use lib.Seq.{length-take-le}
 use borrow.Author.Needs.{needs}
-use Rattle.calls.proofs.telling.print_numbers.Statement.{statement}
-use Rattle.calls.proofs.telling.print_numbers.Tie as tie
-use Rattle.calls.proofs.telling.print_numbers.Reads as reads
-use Rattle.calls.proofs.telling.print_numbers.Lts as lts
+use Rattle.single_calls.proofs.telling.print_numbers.Statement.{statement}
+use Rattle.single_calls.proofs.telling.print_numbers.Tie as tie
+use Rattle.single_calls.proofs.telling.print_numbers.Reads as reads
+use Rattle.single_calls.proofs.telling.print_numbers.Lts as lts
 use Rattle.io.proofs.write_all.Reads as write-all-reads
 use Rattle.lines.proofs.columns.put_column.Reads as put-column-reads
 use Rattle.puts.proofs.put_bytes.Reads as put-bytes-reads

@@ -23,7 +23,7 @@ ghost use Prim.Native.Nat.{_≤_};
 ghost use mathlib.Core.Path.{_≡_};
 ghost use lib.ListN.{length};
 ghost use Rattle.writer.specs.Calls.{Good};
-ghost use Rattle.calls.specs.Underway.{After};
+ghost use Rattle.single_calls.specs.Made.{After};
 
 // The most data that a script of 1 MiB says.
 const DATA: usize = 524288;
@@ -166,7 +166,7 @@ fn make_finish(w: HpsWriter, lent: &mut [u8]) -> Made
 }
 
 // A line's call, with the lent buffer that it gets.
-pub(crate) fn make(
+pub fn make(
     s: &[u8],
     w: Words,
     kind: Kind,

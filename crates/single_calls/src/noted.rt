@@ -5,7 +5,7 @@ use writer::Place;
 ghost use Prim.Native.Nat.{_+_, _≤_};
 ghost use mathlib.Core.Path.{_≡_};
 ghost use lib.ListN.{length};
-ghost use Rattle.calls.specs.Underway.{Listed};
+ghost use Rattle.single_calls.specs.Made.{Listed};
 
 pub struct Noted {
     pub count: usize,
@@ -13,7 +13,7 @@ pub struct Noted {
     pub places: [Place; 516],
 }
 
-pub(crate) fn none() -> Noted
+pub fn none() -> Noted
     ensures { λ q. ⌜ Listed q ⌝ }
 {
     let nowhere = Place {
@@ -43,7 +43,7 @@ fn with_places(places: [Place; 516], i: usize, more: [Place; 3], many: usize) ->
 }
 
 // A call's writes more, whose bytes lie one after the other. A loading hands out no more writes and bytes than are noted.
-pub(crate) fn note(j: Noted, more: [Place; 3], many: usize, bytes: &[u8], kept: &mut [u8]) -> Noted
+pub fn note(j: Noted, more: [Place; 3], many: usize, bytes: &[u8], kept: &mut [u8]) -> Noted
     requires { ⌜ Listed j × (many ≤ 3) ⌝ }
     ensures { λ q. ⌜ Listed q ⌝ }
 {

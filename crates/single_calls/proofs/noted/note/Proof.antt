@@ -3,11 +3,11 @@ use lib.ListN.{length}
 use native.Mathlib.Omega.{arith}
 use Rattle.layout.proofs.FieldLaws.{passed}
 use borrow.Author.Needs.{needs}
-use Rattle.calls.proofs.noted.note.Statement.{statement}
-use Rattle.calls.proofs.noted.note.Tie as tie
-use Rattle.calls.proofs.noted.note.Reads as reads
-use Rattle.calls.proofs.noted.note.Lts as lts
-use Rattle.calls.proofs.noted.with_places.Reads as with-places-reads
+use Rattle.single_calls.proofs.noted.note.Statement.{statement}
+use Rattle.single_calls.proofs.noted.note.Tie as tie
+use Rattle.single_calls.proofs.noted.note.Reads as reads
+use Rattle.single_calls.proofs.noted.note.Lts as lts
+use Rattle.single_calls.proofs.noted.with_places.Reads as with-places-reads
 use Rattle.layout.proofs.fields.inside.Reads as inside-reads
 use Rattle.puts.proofs.put_bytes.Reads as put-bytes-reads
 

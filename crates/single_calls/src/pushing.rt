@@ -13,7 +13,7 @@ pub struct Pushing {
     pub right: Words,
 }
 
-pub(crate) fn empty_push(channels: u64, last: bool) -> Pushing {
+pub fn empty_push(channels: u64, last: bool) -> Pushing {
     let none = no_words();
     Pushing {
         channels,
@@ -24,7 +24,7 @@ pub(crate) fn empty_push(channels: u64, last: bool) -> Pushing {
     }
 }
 
-pub(crate) fn one_more(n: u64) -> u64 {
+pub fn one_more(n: u64) -> u64 {
     if n < 18446744073709551615 { n + 1 } else { n }
 }
 
@@ -44,7 +44,7 @@ fn with_channel(p: Pushing, w: Words) -> Pushing {
 }
 
 // The push that is being read, after a line: PUSH starts one.
-pub(crate) fn after_line(s: &[u8], w: Words, kind: Kind, p: Pushing) -> Pushing {
+pub fn after_line(s: &[u8], w: Words, kind: Kind, p: Pushing) -> Pushing {
     match kind {
         Kind::Push => {
             let line = push_line(s, w);
@@ -56,7 +56,7 @@ pub(crate) fn after_line(s: &[u8], w: Words, kind: Kind, p: Pushing) -> Pushing 
 }
 
 // Whether a line makes a call. A push is made once all its CHAN lines are read.
-pub(crate) fn makes_call(kind: Kind, p: Pushing) -> bool {
+pub fn makes_call(kind: Kind, p: Pushing) -> bool {
     match kind {
         Kind::Nothing | Kind::Lent | Kind::Unknown => false,
         Kind::Push | Kind::Channel => p.read == p.channels,

@@ -2,10 +2,10 @@ use borrow.Author.Needs.{needs}
 use Prim.Native.Nat.{_-_, _≤_}
 use mathlib.Core.Path.{_≡_}
 use lib.ListN.{length}
-use Rattle.calls.proofs.noted.with_places.Statement.{statement}
-use Rattle.calls.proofs.noted.with_places.Tie as tie
-use Rattle.calls.proofs.noted.with_places.Reads as reads
-use Rattle.calls.proofs.noted.with_places.Lts as lts
+use Rattle.single_calls.proofs.noted.with_places.Statement.{statement}
+use Rattle.single_calls.proofs.noted.with_places.Tie as tie
+use Rattle.single_calls.proofs.noted.with_places.Reads as reads
+use Rattle.single_calls.proofs.noted.with_places.Lts as lts
 
 abbrev Inv-loop : tie.InvT-loop
 Inv-loop i many more all₀ k₀ all k = (length all ≡ 516) × ((k ≤ many) × (length more ≡ 3))

@@ -3,6 +3,7 @@ use lib.Seq.{length-take-le}
 use borrow.Author.Needs.{needs}
 use Rattle.single_calls.proofs.telling.print_numbers.Statement.{statement}
 use Rattle.single_calls.proofs.telling.print_numbers.Tie as tie
+use Rattle.single_calls.proofs.telling.three_at_most.Reads as three-at-most-reads
 use Rattle.single_calls.proofs.telling.print_numbers.Reads as reads
 use Rattle.single_calls.proofs.telling.print_numbers.Lts as lts
 use Rattle.io.proofs.write_all.Reads as write-all-reads
@@ -55,6 +56,9 @@ put-column-requires-3 : tie.Need-put-column-requires-3
 put-column-requires-3 c κs = search needs
 
 -- src/telling.rt:26:19
+three-at-most-requires : tie.Need-three-at-most-requires
+three-at-most-requires c κs = search needs
+
 mul-end : tie.Need-mul-end
 mul-end c = search needs
 
@@ -105,6 +109,7 @@ print-numbers-spec =
     slice-aggregate-put-column-3
     array-read-put-column-3
     put-column-requires-3
+    three-at-most-requires
     mul-end
     add-end
     slice-aggregate-put-u8

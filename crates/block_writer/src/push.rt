@@ -1,7 +1,7 @@
 // Push: the block's bytes by its plan, and the record afterwards.
 use block_parts::put_padded;
+use push_advance::advance;
 use push_plan::Stream;
-use push_plan::advance;
 use push_plan::block_end;
 use push_plan::plan_push;
 use sizes::align;

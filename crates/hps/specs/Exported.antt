@@ -14,7 +14,6 @@ use Rattle.kept_sides.specs.KeptSides.{kindOf}
 use Rattle.kept_writer.specs.KeptWriter.{loaderSize, modeOf, writerIn}
 use Rattle.kept_loading.specs.KeptLoading.{callOf, whereRoom, onKept, recordAfter, recordBegun}
 use Rattle.kept_loading.specs.declared.KeptCall.{KeptCall}
-use Rattle.writer.specs.declared.HpsWriter.{HpsWriter}
 use Rattle.reader.specs.OpeningAndReading.{Opened, BlockAnswer, Remaining}
 use Rattle.reader.specs.declared.HpsReader.{HpsReader}
 use Rattle.kept_reader.specs.KeptReader.{openedSize, openedBytes}

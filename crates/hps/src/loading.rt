@@ -5,7 +5,7 @@ use estimate::estimate;
 use kept_loading::begin_kept;
 use kept_loading::cue_kept;
 use kept_loading::finish_kept;
-use kept_loading::push_kept;
+use kept_pushing::push_kept;
 use kept_sides::kind_of;
 use kept_sides::side_in;
 use kept_writer::loader::mode_of;

@@ -15,7 +15,7 @@ use Rattle.kept_reader.specs.KeptReader.{readerIn}
 use Rattle.kept_reader.proofs.KeptReads.{part-shape}
 use Rattle.kept_cues.specs.KeptCues.{cursorIn, cursorBytes, putCursor, CuesGiven, cuesFrom, givenOf, CuesLent, cuesOn, cuesNumber, cuesLent}
 use Rattle.kept_cues.specs.declared.CuesFilled.{CuesFilled}
-use Rattle.kept_cues.proofs.CueBytesLaws.{cursor-put}
+use Rattle.kept_cues.proofs.CursorLaws.{cursor-put}
 
 -- the parts of a record that bytes hold
 module _ (kept : List ℕ) (r : HpsReader) (e : r ≡ readerIn kept) where

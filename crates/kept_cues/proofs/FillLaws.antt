@@ -21,9 +21,10 @@ use Rattle.reader.specs.CuesReadBack.{CueAnswer, loopHere, pointOf, baseAfter, 
 use Rattle.reader.proofs.HeaderLaws.{header-cases}
 use Rattle.cue_reader.specs.declared.CueCall.{CueCall}
 use Rattle.cue_reader.specs.CueAnswers.{cueReply, cueCall, PartsOf}
-use Rattle.kept_cues.specs.KeptCues.{cueBytes, replyNumber, replyPut, CuesGiven, noCue, ahead, oneCue, cuesFrom, filledOf, givenOf}
+use Rattle.kept_cues.specs.KeptCues.{CuesGiven, noCue, ahead, oneCue, cuesFrom, filledOf, givenOf}
 use Rattle.kept_cues.specs.declared.CuesFilled.{CuesFilled}
-use Rattle.kept_cues.proofs.CueBytesLaws.{cue-long, cue-put}
+use Rattle.cue_bytes.specs.CueBytes.{cueBytes, replyNumber, replyPut}
+use Rattle.cue_bytes.proofs.CueBytesLaws.{cue-long, cue-put}
 
 -- a refused call's number is 1
 module _ (s : List ℕ) (r : HpsReader) (c : CueIterator) where

@@ -1,3 +1,3 @@
 pub mod CallLaws
-pub mod CueBytesLaws
+pub mod CursorLaws
 pub mod FillLaws

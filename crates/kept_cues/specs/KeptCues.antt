@@ -1,4 +1,4 @@
--- Cue calls one after the other on a kept record: the cursor in bytes, the bytes of a cue, and what as many calls as there is room for give.
+-- Cue calls one after the other on a kept record: the cursor in bytes, and what as many calls as there is room for give.
 use Prim.Native.Nat.{ℕ, zero, suc, _+_, _/_, _^_, _≤_, _<_}
 use mathlib.Core.Path.{_≡_}
 use mathlib.Core.Bool.{true}
@@ -11,8 +11,8 @@ use Rattle.layout.specs.Records.{be32}
 use Rattle.reader.specs.declared.HpsReader.{HpsReader}
 use Rattle.reader.specs.declared.CueIterator.{CueIterator}
 use Rattle.reader.specs.CuesReadBack.{CueAnswer, cursor, looped, firstCursor, cueStep}
-use Rattle.cue_reader.specs.declared.CueReply.{CueReply}
 use Rattle.kept_reader.specs.KeptReader.{wordAt, longAt, be64, putLong, readerIn}
+use Rattle.cue_bytes.specs.CueBytes.{cueBytes}
 use Rattle.kept_cues.specs.declared.CuesFilled.{CuesFilled}
 
 -- ---- The cursor in bytes
@@ -40,30 +40,6 @@ pub record CursorFits (r : HpsReader) (c : CueIterator) : Type 0 where
 pub record CursorBack : Type 0 where
   pub zeros : (r : HpsReader) → cursorIn r (replicate 32 0) ≡ firstCursor r
   pub back : (r : HpsReader) (bs : List ℕ) (c : CueIterator) → CursorFits r c → 28 ≤ length bs → cursorIn r (putAt bs 0 (cursorBytes c)) ≡ c
-
--- ---- A cue in bytes
-
--- A cue in 16 bytes: its start, 0 for a point or 1 for the loop, and its name.
-unfoldable pub cueBytes : (start kind name : ℕ) → List ℕ
-cueBytes start kind name = be64 start ++ be32 kind ++ be32 name
-
--- A cue put number by number, each where it fits.
-unfoldable pub putCue : List ℕ → (at start kind name : ℕ) → List ℕ
-putCue out at start kind name = putAt (putAt (putLong out at start) (at + 8) (be32 kind)) (at + 12) (be32 name)
-
--- A cue call's number: 0 where it gave a cue, 255 for the end.
-abbrev pub replyNumber : CueReply → ℕ
-replyNumber (CueReply.Refused n) = n
-replyNumber CueReply.End = 255
-replyNumber (CueReply.Loop start) = 0
-replyNumber (CueReply.Point start name) = 0
-
--- Bytes after a cue call: with the cue where it gave one.
-abbrev pub replyPut : List ℕ → (at : ℕ) → CueReply → List ℕ
-replyPut out at (CueReply.Refused n) = out
-replyPut out at CueReply.End = out
-replyPut out at (CueReply.Loop start) = putCue out at start 1 0
-replyPut out at (CueReply.Point start name) = putCue out at start 0 name
 
 -- ---- Cue calls one after the other
 

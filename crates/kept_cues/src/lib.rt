@@ -1,8 +1,7 @@
 // Cue calls on a kept record, one after the other: the cursor and the cues are in lent bytes.
-use cue_reader::CueReply;
+use cue_bytes::put_reply;
 use cue_reader::cue_from;
 use cue_starts::first_cursor;
-use kept_reader::END;
 use kept_reader::NO_RECORD;
 use kept_reader::fields::long;
 use kept_reader::fields::put_long;
@@ -15,13 +14,13 @@ use reader::CueIterator;
 use reader::HpsReader;
 use reader::LoopStart;
 ghost use mathlib.Core.Path.{_≡_};
-ghost use Prim.Native.Nat.{_+_, _/_, _<_, _≤_, _^_};
+ghost use Prim.Native.Nat.{_+_, _/_, _<_, _≤_};
 ghost use lib.ListN.{length};
 ghost use Rattle.layout.specs.Puts.{putAt};
 ghost use Rattle.reader.specs.declared.HpsReader.{HpsReader};
 ghost use Rattle.reader.specs.CuesReadBack.{cursor};
 ghost use Rattle.cue_reader.specs.CueAnswers.{PartsOf};
-ghost use Rattle.kept_cues.specs.KeptCues.{cursorIn, CursorBack, putCursor, putCue, replyNumber, replyPut, filledOf, cuesFrom, givenOf, CuesLent, cuesNumber, cuesLent};
+ghost use Rattle.kept_cues.specs.KeptCues.{cursorIn, CursorBack, putCursor, filledOf, cuesFrom, givenOf, CuesLent, cuesNumber, cuesLent};
 
 const CURSOR_SIZE: usize = 32;
 
@@ -63,36 +62,6 @@ fn put_cursor(cursor: &mut [u8], c: CueIterator)
 pub fn cursor_back()
     ensures { λ _. ⌜ CursorBack ⌝ }
 {}
-
-// A cue in 16 bytes: its start, 0 for a point or 1 for the loop, and its name.
-fn put_cue(out: &mut [u8], at: usize, start: u64, kind: u32, name: u32)
-    requires { ⌜ at + 16 < 2 ^ 64 ⌝ }
-    ensures { λ _. ⌜ now (out .exit) ≡ putCue (now (out .entry)) at start kind name ⌝ }
-{
-    put_long(out, at, start);
-    put_u32(out, at + 8, kind);
-    put_u32(out, at + 12, name);
-}
-
-// The bytes of a cue that a call gave; 0, or the number or end that it gave.
-fn put_reply(reply: CueReply, out: &mut [u8], at: usize) -> u32
-    requires { ⌜ at + 16 < 2 ^ 64 ⌝ }
-    ensures { λ n. ⌜ n ≡ replyNumber reply ⌝ }
-    ensures { λ _. ⌜ now (out .exit) ≡ replyPut (now (out .entry)) at reply ⌝ }
-{
-    match reply {
-        CueReply::Refused(number) => number,
-        CueReply::End => END,
-        CueReply::Loop(start) => {
-            put_cue(out, at, start, 1, 0);
-            0
-        }
-        CueReply::Point(start, name) => {
-            put_cue(out, at, start, 0, name);
-            0
-        }
-    }
-}
 
 fn filled(number: u32, cues: usize, block: usize, place: usize, base: u64, due: bool) -> CuesFilled
     ensures { λ q. ⌜ q ≡ filledOf number cues (cursor block place base due) ⌝ }

@@ -23,9 +23,9 @@ use Rattle.push_plan.specs.declared.Stream.{Stream}
 use Rattle.kept_sides.specs.KeptSides.{cuesFrom, tableIn}
 use Rattle.kept_writer.specs.KeptWriter.{fieldsIn, placesGood, sumsGood, marksGood, loopsWithin, sensible, streamIn, writerIn}
 use Rattle.kept_writer.proofs.KeptLaws.{kept-good}
-use Rattle.kept_puts.specs.KeptTable.{tablePut, firstOf}
+use Rattle.kept_table.specs.KeptTable.{tablePut, firstOf}
 use Rattle.kept_puts.proofs.SameLaws.{word-same, long-same, side-same}
-use Rattle.kept_puts.proofs.TableLaws.{front-left, rest-left, count-back}
+use Rattle.kept_table.proofs.TableLaws.{front-left, rest-left, count-back}
 
 -- ---- Bytes that hold a record
 

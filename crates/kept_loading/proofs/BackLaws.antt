@@ -1,55 +1,49 @@
 -- The record that bytes hold after it was put there is the record that was put.
-use Prim.Native.Nat.{ℕ, zero, suc, _+_, _-_, _*_, _/_, _%_, _≤_, _<_}
-use mathlib.Core.Path.{_≡_, refl, sym, ap, subst, _∙_}
+use Prim.Native.Nat.{ℕ, zero, suc, _+_, _-_, _%_, _≤_, _<_}
+use mathlib.Core.Path.{_≡_, refl, sym, ap, _∙_}
 use mathlib.Core.Bool.{Bool, true, false, not}
-use mathlib.Core.List.{List, [], _∷_, _++_, map, map-id, append-assoc, append-nil}
+use mathlib.Core.List.{List, [], _∷_, _++_, append-assoc, append-nil}
 use native.Mathlib.Omega.{arith}
-use lib.ListN.{length, take, drop, getD, replicate, length-append, List·getD-append}
-use lib.Seq.{getD-take, getD-drop, getD-append-add, length-take-le}
-use lib.Dec.{leb, eqb}
+use lib.ListN.{length, replicate, length-append}
+use lib.Dec.{eqb}
 use lib.IntN.{ℤ, pos}
 use mir.Syntax.{w16}
-use mir.Val.{Val, SFits}
+use mir.Val.{SFits}
 use denote.Array.{each}
-use denote.Shadow.{shadow}
-use denote.Signed.{SInt}
-use borrow.Author.Tests.{eq-eqb, ne-eqb, eqb-true, eqb-false, le-leb, lt-ltb, leb-true, leb-false}
+use borrow.Author.Tests.{ne-eqb, eqb-true, le-leb}
 use Rattle.layout.specs.Choice.{pick, _and_}
 use Rattle.layout.specs.Lists.{All, concat}
 use Rattle.layout.specs.Puts.{putAt}
 use Rattle.layout.specs.Records.{be16, be32, beZ16, contextBytes}
-use Rattle.layout.proofs.Cases.{by-cases, apart}
+use Rattle.layout.proofs.Cases.{by-cases}
 use Rattle.layout.proofs.Lengths.{be16-length, be32-length, beZ16-length, coefficients-length}
-use Rattle.layout.proofs.AtLaws.{At, at-left, at-right, at-move, at-same, at-inside, joined, Pieces, pieces, u16-back, u32-back, i16-back}
-use Rattle.puts.proofs.PutLaws.{Put, put-then, putAt-in, putAt-out, putAt-length}
+use Rattle.layout.proofs.AtLaws.{At, at-left, at-right, at-move, at-same, at-inside, joined, Pieces, pieces, u16-back, i16-back}
+use Rattle.puts.proofs.PutLaws.{putAt-length}
 use Rattle.writer.specs.Typed.{TypedBlock}
-use Rattle.writer.specs.Loading.{Push, noBlock, beginRefusal, pushRefusal, finishRefusal}
-use Rattle.writer.specs.Calls.{replyOf, emptyOf, beginOf, standingIn, takenOf, pushOf, afterFinish, finishOf, Good}
-use Rattle.writer.proofs.GoodLaws.{empty-good, push-good, finish-good}
+use Rattle.writer.specs.Loading.{noBlock, beginRefusal, finishRefusal}
+use Rattle.writer.specs.Calls.{replyOf, emptyOf, beginOf, afterFinish, finishOf, Good}
+use Rattle.writer.proofs.GoodLaws.{empty-good, finish-good}
 use Rattle.writer.specs.declared.Reply.the-variants.{Refused, Accepted}
 use Rattle.writer.specs.declared.ChannelBlock.{ChannelBlock}
 use Rattle.writer.specs.declared.Cue.{Cue}
 use Rattle.writer.specs.declared.Looping.{Looping}
 use Rattle.writer.specs.declared.LoopAt.{LoopAt}
-use Rattle.push_due.specs.PushDue.{pushArgs}
-use Rattle.taking.specs.declared.Taken.{Taken}
-use Rattle.push_plan.specs.PushPlan.{streamOf, writerOf, advanced}
-use Rattle.push_plan.specs.declared.Plan.{Plan}
+use Rattle.push_plan.specs.PushPlan.{streamOf, writerOf}
 use Rattle.push_plan.specs.declared.Stream.{Stream}
 use Rattle.kept_reader.specs.KeptReader.{be64, wordAt, longAt}
-use Rattle.kept_reader.proofs.KeptReads.{word-in}
 use Rattle.kept_reader.proofs.LongLaws.{be64-length}
 use Rattle.kept_reader.proofs.ReadBackLaws.{Agree}
 use Rattle.kept_sides.specs.KeptSides.{halfAt, signedAt, signedFrom, sideIn, cuesFrom, tableIn}
 use Rattle.kept_sides.proofs.SameLaws.{word-same, long-same, side-same, table-same}
-use Rattle.kept_puts.specs.KeptNumbers.{modeNumber, loopNumber, flagNumber, placesBytes, sumsBytes, marksBytes, numberBytes, sideBytes}
-use Rattle.kept_puts.proofs.NumberLaws.{places-length, sums-length, numbers-length, side-length}
-use Rattle.kept_writer.specs.KeptWriter.{modeOf, loopOf, fieldsIn, placesGood, sumsGood, marksGood, loopsWithin, sensible, streamIn, writerIn}
+use Rattle.kept_puts.specs.KeptNumbers.{modeNumber, loopNumber, flagNumber, placesBytes, sumsBytes, marksBytes, numberBytes}
+use Rattle.kept_puts.proofs.NumberLaws.{places-length, sums-length, numbers-length}
+use Rattle.kept_writer.specs.KeptWriter.{modeOf, loopOf, fieldsIn, sensible, streamIn, writerIn}
 use Rattle.kept_writer.proofs.KeptLaws.{holds-record, kept-good}
-use Rattle.block_writer.proofs.PushLaws.{Worked, due-is, after-is}
-use Rattle.kept_loading.specs.KeptLoading.{numberOf, recordBytes, pushedBytes}
 use Rattle.kept_puts.proofs.SameLaws.{same-before, same-after}
-use Rattle.kept_puts.proofs.TableLaws.{word-back, long-back, put-there}
+use Rattle.kept_puts.proofs.ThereLaws.{word-back, long-back, put-there}
+use Rattle.kept_record.specs.KeptRecord.{sideBytes, recordBytes}
+use Rattle.kept_record.proofs.RecordLaws.{side-length}
+use Rattle.kept_loading.specs.KeptLoading.{numberOf}
 use Rattle.kept_loading.proofs.CallLaws.{apart-replies}
 use Rattle.kept_loading.proofs.AfterLaws.{holds, good-sensible}
 
@@ -73,7 +67,7 @@ some-back {k} off (suc n) (z ∷ zs) l (All.more g f) a =
     let y = some-back {k = k} (off + 2) n zs (omega arith) f (at-move (off + 2) (ap (λ (m : ℕ). off + m) (beZ16-length z)) (at-right (beZ16 z) (concat beZ16 zs) a)) in
     rw (x, y)
 
-abbrev Long : ℕ → Type 0
+abbrev pub Long : ℕ → Type 0
 Long n = n < 18446744073709551616
 
 four-back : {k : List ℕ} (off a b c d : ℕ) → Long a → Long b → Long c → Long d → At k off (concat be64 (a ∷ b ∷ c ∷ d ∷ []))
@@ -253,10 +247,10 @@ module _ (k : List ℕ) (lent : List ℕ) (n : ℕ) where
       by-cases (eqb (finishRefusal (streamIn k .finished) (streamIn k .blocks) (streamIn k .last) (length lent)) 0)
       (λ q. apart-replies _ n (rw q at e)) (λ q. rw q)
 
--- ---- After push and begin
+-- ---- After begin
 
 module _ (k : List ℕ) (room : 3256 ≤ length k) (s : Stream) (t : List Cue) (g : Good (writerOf t s)) (ch : Long (s .channels)) where
-  whole-back : SideFits (s .left) → SideFits (s .right) → writerIn (putAt k 0 (recordBytes s)) ≡ writerOf (tableIn k 184 (s .count)) s
+  pub whole-back : SideFits (s .left) → SideFits (s .right) → writerIn (putAt k 0 (recordBytes s)) ≡ writerOf (tableIn k 184 (s .count)) s
   unfolding recordBytes
   whole-back fl fr =
       let lb = sideBytes (s .left) in
@@ -273,66 +267,6 @@ module _ (k : List ℕ) (room : 3256 ≤ length k) (s : Stream) (t : List Cue) (
       record-back k (putAt k 0 bs) s t room (putAt-length k 0 bs) g
       (numbers-back (putAt k 0 bs) s t g ch (at-left (numberBytes s) (lb ++ rb) a) left right)
       (same-after k 0 bs (omega arith) 184 3256 (omega arith) .byte)
-
-  numbers-alone : sideIn k 88 ≡ s .left → sideIn k 136 ≡ s .right → writerIn (putAt k 0 (numberBytes s)) ≡ writerOf (tableIn k 184 (s .count)) s
-  numbers-alone l r =
-      let bs = numberBytes s in
-      let k′ = putAt k 0 bs in
-      let n = numbers-length s in
-      let long = putAt-length k 0 bs in
-      let b = same-after k 0 bs (omega arith) (0 + length bs) 3256 (omega arith) .byte in
-      let left = side-same k′ k (0 + length bs) 3256 b long 88 (omega arith) (omega arith) ∙ l in
-      let right = side-same k′ k (0 + length bs) 3256 b long 136 (omega arith) (omega arith) ∙ r in
-      record-back k k′ s t room long g (numbers-back k′ s t g ch (put-there k 0 bs (omega arith)) left right) (λ i x y. b i (omega arith) y)
-
-  pushed-back : (s .blocks ≡ 1 → SideFits (s .left) × SideFits (s .right)) → ((s .blocks ≡ 1 → ⊥) → (sideIn k 88 ≡ s .left) × (sideIn k 136 ≡ s .right))
-      → writerIn (putAt k 0 (pushedBytes s)) ≡ writerOf (tableIn k 184 (s .count)) s
-  unfolding pushedBytes
-  pushed-back first later =
-      by-cases (eqb (s .blocks) 1)
-      (λ q. let f = first (eqb-true (s .blocks) 1 q) in rw q (whole-back (f .0) (f .1)))
-      (λ q. let f = later (eqb-false (s .blocks) 1 q) in rw q (numbers-alone (f .0) (f .1)))
-
-side-there : (k : List ℕ) → (fieldsIn k .left ≡ sideIn k 88) × (fieldsIn k .right ≡ sideIn k 136)
-unfolding fieldsIn
-side-there k = (refl, refl)
-
-module _ (k : List ℕ) (some : streamIn k .slot ≡ 0 → ⊥) {ch : ℕ} {l r : ChannelBlock} {ld rd : List ℕ} {last : Bool} {lent : List ℕ} {end : ℕ} {t : Taken} {held : Bool} {plan : Plan}
-    (w : Worked (writerIn k) ch l r ld rd last lent end t held plan) (z : plan .due ≡ 0) (fl : SideFits l) (fr : SideFits r) (long : Long (streamIn k .channels)) where
-  abbrev next : Stream
-  next = advanced (streamIn k) t end (plan .size) (plan .loopat) l r last
-
-  next-good : Good (writerOf (tableIn k 184 (streamIn k .count)) next)
-  next-good = rw (after-is w z) (push-good (writerIn k) (pushArgs ch l r ld rd last) (length lent) (kept-good k) (sym (due-is w) ∙ z))
-
-  first-fits : next .blocks ≡ 1 → SideFits (next .left) × SideFits (next .right)
-  unfolding advanced
-  first-fits e = rw (eq-eqb (streamIn k .blocks) 0 (omega arith)) (fl, fr)
-
-  later-there : (next .blocks ≡ 1 → ⊥) → (sideIn k 88 ≡ next .left) × (sideIn k 136 ≡ next .right)
-  unfolding advanced
-  later-there h =
-      let there = holds k some .is in
-      let e = side-there k in
-      rw (ne-eqb (streamIn k .blocks) 0 (λ n. h (ap (λ (m : ℕ). m + 1) n)))
-      (sym (ap (λ (s : Stream). s .left) there ∙ e .0), sym (ap (λ (s : Stream). s .right) there ∙ e .1))
-
-  kept-there : (next .channels ≡ streamIn k .channels) × (next .count ≡ streamIn k .count)
-  unfolding advanced
-  kept-there = (refl, refl)
-
-  pub push-after : writerIn (putAt k 0 (pushedBytes next)) ≡ pushOf (writerIn k) (pushArgs ch l r ld rd last) lent .writer
-  unfolding pushOf
-  push-after =
-      let p = pushArgs ch l r ld rd last in
-      let is = kept-there in
-      rw (eq-eqb (pushRefusal (standingIn (writerIn k)) (takenOf (writerIn k) p) p (length lent)) 0 (sym (due-is w) ∙ z))
-      (pushed-back k (holds k some .room) next (tableIn k 184 (streamIn k .count)) next-good (omega arith) first-fits later-there
-      ∙ ap (λ (n : ℕ). writerOf (tableIn k 184 n) next) (is .1) ∙ after-is w z)
-
-pub push-left : (k : List ℕ) (p : Push) (lent : List ℕ) (n : ℕ) → n ≡ pushRefusal (standingIn (writerIn k)) (takenOf (writerIn k) p) p (length lent) → (n ≡ 0 → ⊥) → writerIn k ≡ pushOf (writerIn k) p lent .writer
-unfolding pushOf
-push-left k p lent n is h = rw (ne-eqb _ 0 (λ z. h (is ∙ z)))
 
 -- the record of an accepted begin
 zeros-fit : (n : ℕ) → All (SFits w16) (replicate n (pos 0))
@@ -374,31 +308,3 @@ module _ (k : List ℕ) (slot ch : ℕ) (mode : Looping) (lent : List ℕ) (n : 
 
   pub begin-left : replyOf (beginOf slot ch mode lent .answer) ≡ Refused n → writerIn k ≡ pick (eqb (numberOf (beginOf slot ch mode lent .answer)) 0) (beginOf slot ch mode lent .writer) (writerIn k)
   begin-left e = rw (begin-number e)
-
--- ---- The bytes that are put
-
-module _ (k k₁ : List ℕ) (s : Stream) (is : k₁ ≡ putAt k 0 (numberBytes s)) where
-  pub record-put : {k₂ : List ℕ} → 184 ≤ length k → length (s .left .coefficients) ≡ 16 → length (s .right .coefficients) ≡ 16 → k₂ ≡ putAt k₁ 88 (sideBytes (s .left) ++ sideBytes (s .right)) → k₂ ≡ putAt k 0 (recordBytes s)
-  unfolding recordBytes
-  record-put room l r e =
-      let p : Put k 0 88 (numberBytes s) k₁ = record { size = numbers-length s; is = is } in
-      let n : length (sideBytes (s .left) ++ sideBytes (s .right)) ≡ 96 = length-append (sideBytes (s .left)) (sideBytes (s .right)) ∙ omega (arith, side-length (s .left) l, side-length (s .right) r) in
-      put-then p (sideBytes (s .left) ++ sideBytes (s .right)) n e refl (omega arith) .is
-
-  pub first-put : {k₂ : List ℕ} → s .blocks ≡ 1 → k₂ ≡ putAt k 0 (recordBytes s) → k₂ ≡ putAt k 0 (pushedBytes s)
-  unfolding pushedBytes
-  first-put h e = rw (eq-eqb (s .blocks) 1 h) e
-
-  pub later-put : (s .blocks ≡ 1 → ⊥) → k₁ ≡ putAt k 0 (pushedBytes s)
-  unfolding pushedBytes
-  later-put h = rw (ne-eqb (s .blocks) 1 h) is
-
--- ---- The elements of an array of i16 that is a field
-
-each-signed : (zs : List ℤ) (us : List Val) → shadow (each ℤ (SInt w16 .own) zs us) → All (SFits w16) zs
-each-signed [] us p = All.none
-each-signed (z ∷ zs) [] p = absurd p
-each-signed (z ∷ zs) (u ∷ us) p = All.more (record { sfits = p .0 .1 }) (each-signed zs us (p .1))
-
-pub signed-field : (zs : List ℤ) (us : List Val) → shadow (each ℤ (SInt w16 .own) (map (λ (z : ℤ). z) zs) us) → All (SFits w16) zs
-signed-field zs us p = each-signed zs us (subst (λ (ys : List ℤ). shadow (each ℤ (SInt w16 .own) ys us)) (map-id zs) p)

@@ -1,15 +1,13 @@
 -- What the loading calls on a record in lent bytes give.
 use Prim.Native.Nat.{ℕ, _<_}
 use mathlib.Core.Path.{_≡_}
-use mathlib.Core.List.{List, _++_}
+use mathlib.Core.List.{List}
 use lib.ListN.{length}
 use lib.Dec.{ltb, eqb}
 use Rattle.layout.specs.Choice.{pick}
 use Rattle.writer.specs.Loading.{Answer, accepted, refused}
 use Rattle.writer.specs.Calls.{Outcome, firstPlace}
 use Rattle.writer.specs.declared.HpsWriter.{HpsWriter}
-use Rattle.push_plan.specs.declared.Stream.{Stream}
-use Rattle.kept_puts.specs.KeptNumbers.{numberBytes, sideBytes}
 use Rattle.kept_writer.specs.KeptWriter.{loaderSize, streamIn, writerIn}
 use Rattle.kept_loading.specs.declared.KeptCall.{KeptCall}
 
@@ -53,14 +51,6 @@ Leaves n before after = 0 < n → after ≡ before
 -- As many bytes as before.
 abbrev pub SameLength : (before after : List ℕ) → Type 0
 SameLength before after = length after ≡ length before
-
--- The bytes of the record without its table: numbers and sides.
-unfoldable pub recordBytes : Stream → List ℕ
-recordBytes s = numberBytes s ++ (sideBytes (s .left) ++ sideBytes (s .right))
-
--- The bytes that are put after a push: the sides after the first block alone.
-unfoldable pub pushedBytes : Stream → List ℕ
-pushedBytes s = pick (eqb (s .blocks) 1) (recordBytes s) (numberBytes s)
 
 -- The record that the bytes hold after a call on the record that they held: the one that the call gives; where they held none, as before.
 abbrev pub recordAfter : (kept : List ℕ) → Outcome → HpsWriter

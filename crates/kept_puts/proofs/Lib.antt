@@ -1,3 +1,3 @@
 pub mod SameLaws
-pub mod TableLaws
+pub mod ThereLaws
 pub mod NumberLaws

@@ -1,5 +1,5 @@
--- The record's numbers and sides, put piece after piece.
-use Prim.Native.Nat.{ℕ, _+_, _*_, _%_, _≤_}
+-- The record's numbers, put piece after piece.
+use Prim.Native.Nat.{ℕ, _+_, _≤_}
 use mathlib.Core.Path.{_≡_, refl, ap, _∙_}
 use mathlib.Core.Bool.{Bool}
 use mathlib.Core.List.{List, [], _∷_, _++_, append-assoc, append-nil}
@@ -7,16 +7,15 @@ use native.Mathlib.Omega.{arith}
 use lib.ListN.{length, length-append}
 use Rattle.layout.specs.Lists.{concat}
 use Rattle.layout.specs.Puts.{putAt}
-use Rattle.layout.specs.Records.{be16, be32, beZ16, contextBytes}
-use Rattle.layout.proofs.Lengths.{be16-length, be32-length, context-length, coefficients-length}
+use Rattle.layout.specs.Records.{be32}
+use Rattle.layout.proofs.Lengths.{be32-length}
 use Rattle.puts.proofs.PutLaws.{Put, put-then, putAt-length}
-use Rattle.writer.specs.declared.ChannelBlock.{ChannelBlock}
 use Rattle.writer.specs.declared.Looping.{Looping}
 use Rattle.writer.specs.declared.LoopAt.{LoopAt}
 use Rattle.push_plan.specs.declared.Stream.{Stream}
 use Rattle.kept_reader.specs.KeptReader.{be64, putLong}
 use Rattle.kept_reader.proofs.LongLaws.{be64-length, long-put}
-use Rattle.kept_puts.specs.KeptNumbers.{modeNumber, loopNumber, flagNumber, placesBytes, sumsBytes, marksBytes, numberBytes, sideBytes}
+use Rattle.kept_puts.specs.KeptNumbers.{modeNumber, loopNumber, flagNumber, placesBytes, sumsBytes, marksBytes, numberBytes}
 
 -- ---- Four u64
 
@@ -95,29 +94,3 @@ numbers-put k k₁ k₂ s room e₁ e₂ e₃ =
     let p : Put k 0 32 (placesBytes (s .slot) (s .channels) (s .count) (s .next)) _ = record { size = places-length _ _ _ _; is = e₁ } in
     let q = put-then p (sumsBytes (s .base) (s .offset) (s .blocks) (s .sum)) (sums-length _ _ _ _) e₂ refl (omega arith) in
     put-then q (marksBytes (s .loopat) (s .mode) (s .id) (s .last) (s .finished)) (marks-length _ _ _ _ _) e₃ refl (omega arith) .is
-
--- ---- A side
-
-pub side-length : (b : ChannelBlock) → length (b .coefficients) ≡ 16 → length (sideBytes b) ≡ 48
-unfolding sideBytes
-side-length b h =
-    simp (length-append, be32-length, be16-length, context-length)
-    (omega (arith, h, coefficients-length (b .coefficients)))
-
-pub side-put : (k k₁ k₂ k₃ k₄ : List ℕ) {k₅ : List ℕ} (at : ℕ) (b : ChannelBlock) → at + 48 ≤ length k → length (b .coefficients) ≡ 16 → k₁ ≡ putAt k at (be32 (b .rate))
-    → k₂ ≡ putAt k₁ (at + 4) (be32 (b .length % 4294967296)) → k₃ ≡ putAt k₂ (at + 8) (concat beZ16 (b .coefficients))
-    → k₄ ≡ putAt k₃ (at + 40) (be16 (b .gain)) → k₅ ≡ putAt k₄ (at + 42) (contextBytes (b .context)) → k₅ ≡ putAt k at (sideBytes b)
-unfolding sideBytes
-side-put k k₁ k₂ k₃ k₄ at b room h e₁ e₂ e₃ e₄ e₅ =
-    let n : length (concat beZ16 (b .coefficients)) ≡ 32 = coefficients-length (b .coefficients) ∙ ap (λ (x : ℕ). 2 * x) h in
-    let p : Put k at 4 (be32 (b .rate)) _ = record { size = be32-length _; is = e₁ } in
-    let q = put-then p (be32 (b .length % 4294967296)) (be32-length _) e₂ refl (omega arith) in
-    let r = put-then q (concat beZ16 (b .coefficients)) n e₃ refl (omega arith) in
-    let t = put-then r (be16 (b .gain)) (be16-length _) e₄ refl (omega arith) in
-    put-then t (contextBytes (b .context)) (context-length _) e₅ refl (omega arith) .is
-
-pub sides-put : (k k₁ : List ℕ) {k₂ : List ℕ} (l r : ChannelBlock) → 184 ≤ length k → length (l .coefficients) ≡ 16 → length (r .coefficients) ≡ 16
-    → k₁ ≡ putAt k 88 (sideBytes l) → k₂ ≡ putAt k₁ 136 (sideBytes r) → k₂ ≡ putAt k 88 (sideBytes l ++ sideBytes r)
-sides-put k k₁ l r room hl hr e₁ e₂ =
-    let p : Put k 88 48 (sideBytes l) _ = record { size = side-length l hl; is = e₁ } in
-    put-then p (sideBytes r) (side-length r hr) e₂ refl (omega arith) .is

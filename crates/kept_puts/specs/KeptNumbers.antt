@@ -1,11 +1,10 @@
--- The bytes of the writer's record in lent bytes: its numbers, and the first block's sides.
-use Prim.Native.Nat.{ℕ, _%_}
+-- The bytes of the writer's record in lent bytes: its numbers.
+use Prim.Native.Nat.{ℕ}
 use mathlib.Core.Bool.{Bool}
 use mathlib.Core.List.{List, [], _∷_, _++_}
 use Rattle.layout.specs.Choice.{pick}
 use Rattle.layout.specs.Lists.{concat}
-use Rattle.layout.specs.Records.{be16, be32, beZ16, contextBytes}
-use Rattle.writer.specs.declared.ChannelBlock.{ChannelBlock}
+use Rattle.layout.specs.Records.{be32}
 use Rattle.writer.specs.declared.Looping.{Looping}
 use Rattle.writer.specs.declared.Looping.the-variants.{Disabled, Enabled, Auto}
 use Rattle.writer.specs.declared.LoopAt.{LoopAt}
@@ -49,10 +48,3 @@ unfoldable pub numberBytes : Stream → List ℕ
 numberBytes s =
     (placesBytes (s .slot) (s .channels) (s .count) (s .next) ++ sumsBytes (s .base) (s .offset) (s .blocks) (s .sum))
     ++ marksBytes (s .loopat) (s .mode) (s .id) (s .last) (s .finished)
-
--- ---- A side
-
--- A side in 48 bytes: rate, length as a u32, 16 coefficients, gain, context.
-unfoldable pub sideBytes : ChannelBlock → List ℕ
-sideBytes b =
-    (((be32 (b .rate) ++ be32 (b .length % 4294967296)) ++ concat beZ16 (b .coefficients)) ++ be16 (b .gain)) ++ contextBytes (b .context)

@@ -1,2 +1,1 @@
 pub mod KeptNumbers
-pub mod KeptTable

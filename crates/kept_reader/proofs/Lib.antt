@@ -1,4 +1,3 @@
-pub mod KeptPuts
 pub mod KeptReads
 pub mod LongLaws
 pub mod PartLaws

@@ -31,8 +31,21 @@ use Rattle.reader.specs.declared.LoopStart.{LoopStart}
 use Rattle.reader.proofs.HeaderLaws.{header-cases, header-is}
 use Rattle.reader.proofs.OpenedLaws.{Parts, opened-parts, one-or-two, not-walked, and-readable}
 use Rattle.kept_reader.specs.KeptReader.{wordAt, loopNumber, loopOf, fileKept, openedBytes, offsetsIn, readerIn, ReadBack}
-use Rattle.kept_reader.proofs.KeptPuts.{offsets-length, file-length}
 use Rattle.kept_reader.proofs.KeptReads.{word-in, first-offset, offsets-long, second-lesser, part-made}
+
+-- ---- Lengths
+
+pub offsets-length : (os : List ℕ) → length (concat be32 os) ≡ 4 * length os
+unfolding concat
+offsets-length [] = refl
+offsets-length (o ∷ os) = length-append (be32 o) (concat be32 os) ∙ omega (arith, be32-length o, offsets-length os)
+
+pub file-length : (s : List ℕ) (count : ℕ) → 128 ≤ length s → length (fileKept s count) ≡ 128
+unfolding fileKept
+file-length s count h =
+    by-cases (eqb count 2)
+    (λ t. rw t (length-take-le 128 s h))
+    (λ t. rw t (length-append (take 72 s) (replicate 56 0) ∙ omega (arith, length-take-le 72 s (omega arith), length-replicate {A = ℕ} 56 0)))
 
 -- ---- The same bytes read the same
 

@@ -1,24 +1,20 @@
 -- The listing from each stage on: its next line, and what follows.
 use Prim.Native.Nat.{ℕ, suc, _+_, _-_, _<_, _≤_}
 use mathlib.Core.Path.{_≡_, refl, ap, sym, _∙_}
-use mathlib.Core.List.{List, [], _∷_, _++_, append-nil, append-assoc}
+use mathlib.Core.List.{List, [], _∷_, _++_, append-nil}
 use native.Mathlib.Omega.{arith}
 use native.Mathlib.Numerals.{add-one}
-use lib.ListN.{length, take, drop, getD, length-take, drop-of-length-le}
+use lib.ListN.{length, take, drop, drop-of-length-le}
 use lib.Seq.{drop-cons, getD-take, length-take-le}
-use lib.Dec.{ltb}
-use borrow.Author.Tests.{lt-ltb, le-ltb}
 use Rattle.layout.specs.Records.{Read, readHeader, lengthIn}
-use Rattle.layout.specs.Puts.{putAt}
 use Rattle.layout.specs.declared.BlockHeader.{BlockHeader}
-use Rattle.puts.proofs.PutLaws.{putAt-in, putAt-next, putAt-none}
-use Rattle.reader.specs.OpeningAndReading.{Opened, opening, Readable, channelIn, offsetIn, offsetsFrom}
+use Rattle.reader.specs.OpeningAndReading.{channelIn, offsetIn, offsetsFrom}
 use Rattle.reader.specs.CuesReadBack.{CueAnswer, firstCursor, cueStep}
 use Rattle.reader.specs.declared.HpsReader.{HpsReader}
 use Rattle.reader.specs.declared.CueIterator.{CueIterator}
 use Rattle.listing.specs.declared.Stage.{Stage}
 use Rattle.lines.specs.Lines.{stopLine, headLine, blockLine, loopLine, cueLine}
-use Rattle.listing.specs.MarkingKey.{cueCalls, cueLines, blockLines, wholeListing, onOpened, listing, listingFrom}
+use Rattle.listing.specs.MarkingKey.{cueCalls, cueLines, blockLines, wholeListing, listingFrom}
 
 module _ (s : List ℕ) (r : HpsReader) where
   pub stop-rest : (n : ℕ) → listingFrom s r (Stage.Stop n) ≡ stopLine n ++ listingFrom s r Stage.Done
@@ -88,16 +84,3 @@ module _ (s : List ℕ) (r : HpsReader) where
     cues-point b k e = ap (λ (m : ℕ). cueLines m s r c) one-more ∙ rw e
 
 -- ---- The start
-
-module _ (s : List ℕ) (r : HpsReader) where
-  pub start-long : 65536 < length s → listingFrom s r (Stage.Stop 7) ≡ listing s
-  unfolding listingFrom listing
-  start-long h = rw (lt-ltb 65536 (length s) h)
-
-  pub start-refused : length s ≤ 65536 → (n : ℕ) → opening s ≡ Opened.refused n → listingFrom s r (Stage.Stop n) ≡ listing s
-  unfolding listingFrom listing
-  start-refused h n e = rw (le-ltb 65536 (length s) h) (rw e)
-
-  pub start-opened : length s ≤ 65536 → opening s ≡ Opened.opened r → listingFrom s r Stage.Head ≡ listing s
-  unfolding listingFrom listing
-  start-opened h e = rw (le-ltb 65536 (length s) h) (rw e)

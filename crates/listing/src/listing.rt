@@ -9,16 +9,13 @@ use cue_reader::CueReply;
 use cue_reader::next_cue;
 use cue_starts::first_cursor;
 use layout::answers::HeaderRead;
-use opening::open;
 use reader::CueIterator;
 use reader::HpsReader;
-use reader::answers::OpenReply;
 use records::block::read_header;
 ghost use mathlib.Core.Path.{_≡_};
 ghost use Prim.Native.Nat.{_+_, _≤_, _<_};
 ghost use lib.ListN.{length};
 ghost use Rattle.reader.specs.OpeningAndReading.{Readable};
-ghost use Rattle.listing.specs.MarkingKey.{listing, listingFrom};
 ghost use Rattle.listing.specs.Filling.{LineIs, FilledIs};
 
 // The longest slot that is listed.
@@ -30,38 +27,10 @@ const CUE_CALLS: usize = 130562;
 // The longest line, a block's.
 const LONGEST: usize = 60;
 
-pub struct Listing {
-    pub stage: Stage,
-    pub reader: HpsReader,
-}
-
 // A line that was put, and what comes after it; no line where the listing is done.
 pub struct Line {
     pub length: usize,
     pub stage: Stage,
-}
-
-pub fn start_listing(s: &[u8]) -> Listing
-    ensures { λ q. ⌜ listingFrom (now (s .entry)) (q .reader) (q .stage) ≡ listing (now (s .entry)) ⌝ }
-    ensures { λ q. ⌜ Readable (q .reader) ⌝ }
-{
-    let call = open(s);
-    let reader = call.reader;
-    let reply = call.reply;
-    if s.len() > KEY_LIMIT {
-        let stage = Stage::Stop(7);
-        return Listing { stage, reader };
-    }
-    match reply {
-        OpenReply::Refused(number) => {
-            let stage = Stage::Stop(number);
-            Listing { stage, reader }
-        }
-        OpenReply::Opened => {
-            let stage = Stage::Head;
-            Listing { stage, reader }
-        }
-    }
 }
 
 fn done() -> Line

@@ -9,7 +9,7 @@ use layout::Channel;
 use layout::DspFormat;
 use layout::FrameContext;
 use listing::listing::fill;
-use listing::listing::start_listing;
+use listing_start::start_listing;
 use puts::put_bytes;
 use reader::HpsReader;
 use remaining::RemainingReply;

@@ -1,4 +1,4 @@
-use Rattle.kept_cues.proofs.CueBytesLaws.{cursor-back, zeros-first}
+use Rattle.kept_cues.proofs.CursorLaws.{cursor-back, zeros-first}
 use Rattle.kept_cues.proofs.cursor_back.Statement.{statement}
 use Rattle.kept_cues.proofs.cursor_back.Tie as tie
 use Rattle.kept_cues.proofs.cursor_back.Reads as reads

@@ -1,4 +1,4 @@
-use Rattle.kept_cues.proofs.CueBytesLaws.{cursor-read}
+use Rattle.kept_cues.proofs.CursorLaws.{cursor-read}
 use native.Mathlib.Omega.{arith}
 use Rattle.kept_cues.proofs.cursor_in.Statement.{statement}
 use Rattle.kept_cues.proofs.cursor_in.Tie as tie

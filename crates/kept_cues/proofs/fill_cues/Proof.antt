@@ -13,7 +13,7 @@ use Rattle.kept_cues.proofs.fill_cues.Reads as reads
 use Rattle.kept_cues.proofs.fill_cues.Lts as lts
 use Rattle.cue_reader.proofs.cue_from.Reads as cue-from-reads
 use Rattle.kept_cues.proofs.filled.Reads as filled-reads
-use Rattle.kept_cues.proofs.put_reply.Reads as put-reply-reads
+use Rattle.cue_bytes.proofs.put_reply.Reads as put-reply-reads
 
 abbrev Inv-loop : tie.InvT-loop
 Inv-loop s offsets blocks start format out₀ block₀ place₀ base₀ due₀ cues₀ at₀ out block place base due cues at =

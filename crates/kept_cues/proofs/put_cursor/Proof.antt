@@ -1,5 +1,5 @@
 use mathlib.Core.Path.{_∙_}
-use Rattle.kept_cues.proofs.CueBytesLaws.{due-put, passed-put}
+use Rattle.kept_cues.proofs.CursorLaws.{due-put, passed-put}
 use native.Mathlib.Omega.{arith}
 use Rattle.kept_cues.proofs.put_cursor.Statement.{statement}
 use Rattle.kept_cues.proofs.put_cursor.Tie as tie

@@ -9,8 +9,9 @@ use Rattle.writer.specs.declared.Called.{Called}
 use Rattle.push_plan.specs.PushPlan.{streamOf}
 use Rattle.push_plan.specs.declared.Stream.{Stream}
 use Rattle.kept_writer.specs.KeptWriter.{writerIn}
-use Rattle.kept_loading.specs.KeptLoading.{recordBytes}
-use Rattle.kept_loading.proofs.BackLaws.{record-put, begin-after, begin-sixteen, begin-left}
+use Rattle.kept_record.specs.KeptRecord.{recordBytes}
+use Rattle.kept_record.proofs.RecordLaws.{record-put}
+use Rattle.kept_loading.proofs.BackLaws.{begin-after, begin-sixteen, begin-left}
 use Rattle.kept_loading.proofs.CallLaws.{begin-refused, begin-accepted}
 use borrow.Author.Needs.{needs}
 use Rattle.kept_loading.proofs.begin_kept.Statement.{statement}
@@ -20,7 +21,7 @@ use Rattle.kept_loading.proofs.begin_kept.Lts as lts
 use Rattle.block_writer.proofs.push.stream_of.Reads as stream-of-reads
 use Rattle.kept_loading.proofs.refused.Reads as refused-reads
 use Rattle.kept_puts.proofs.put_numbers.Reads as put-numbers-reads
-use Rattle.kept_puts.proofs.put_sides.Reads as put-sides-reads
+use Rattle.kept_record.proofs.put_sides.Reads as put-sides-reads
 use Rattle.writer.proofs.begin.Reads as begin-reads
 
 refused-requires : tie.Need-refused-requires

@@ -15,7 +15,7 @@ use Rattle.kept_loading.proofs.cue_kept.Tie as tie
 use Rattle.kept_loading.proofs.cue_kept.Reads as reads
 use Rattle.kept_loading.proofs.cue_kept.Lts as lts
 use Rattle.kept_loading.proofs.refused.Reads as refused-reads
-use Rattle.kept_puts.proofs.put_table.Reads as put-table-reads
+use Rattle.kept_table.proofs.put_table.Reads as put-table-reads
 use Rattle.kept_writer.proofs.loader.writer_in.Reads as writer-in-reads
 use Rattle.cue_writer.proofs.cue.Reads as cue-reads
 

@@ -18,7 +18,7 @@ use Rattle.block_writer.proofs.push.put_data.Reads as put-data-reads
 use Rattle.block_writer.proofs.push.refused.Reads as refused-reads
 use Rattle.block_writer.proofs.push.stream_of.Reads as stream-of-reads
 use Rattle.block_writer.proofs.push.with_stream.Reads as with-stream-reads
-use Rattle.push_plan.proofs.advance.Reads as advance-reads
+use Rattle.push_advance.proofs.advance.Reads as advance-reads
 use Rattle.push_plan.proofs.block_end.Reads as block-end-reads
 use Rattle.push_plan.proofs.plan_push.Reads as plan-push-reads
 use Rattle.taking.proofs.any_loop.Reads as any-loop-reads

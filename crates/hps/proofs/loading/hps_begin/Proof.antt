@@ -9,7 +9,6 @@ use Rattle.writer.specs.Calls.{beginOf}
 use Rattle.writer.specs.declared.Looping.{Looping}
 use Rattle.kept_writer.specs.KeptWriter.{loaderSize}
 use Rattle.kept_loading.specs.KeptLoading.{callOf, whereRoom, recordBegun}
-use borrow.Author.Needs.{needs}
 use Rattle.hps.proofs.loading.hps_begin.Statement.{statement}
 use Rattle.hps.proofs.loading.hps_begin.Tie as tie
 use Rattle.hps.proofs.loading.hps_begin.Reads as reads
@@ -21,16 +20,16 @@ returns : tie.Need-returns
 returns c = rw (lt-ltb 2 (c .before .before .before .args .mode) (c .if1 .taken)) (refl, ((refl, refl), ((refl, λ _. refl), (refl, refl))))
 
 mode-of-requires : tie.Need-mode-of-requires
-mode-of-requires c κs = search needs
+mode-of-requires c κs = tt
 
 begin-kept-requires : tie.Need-begin-kept-requires
-begin-kept-requires c κs = search needs
+begin-kept-requires c κs = tt
 
 same-length : tie.Need-same-length
-same-length c = search needs
+same-length c = c .before .before .before .before .before .kept .given
 
 same-length-2 : tie.Need-same-length-2
-same-length-2 c = search needs
+same-length-2 c = c .before .before .before .lent .given
 
 returns-2 : tie.Need-returns-2
 returns-2 c =
@@ -44,10 +43,10 @@ returns-2 c =
     rw (le-ltb 2 (a .mode) (e .if1 .left)) (ap (λ (x : KeptCall). x .number) q, ((ap (λ (x : KeptCall). x .offset) q ∙ given _ _ _ (c .if2 .taken), ap (λ (x : KeptCall). x .length) q ∙ given _ _ _ (c .if2 .taken)), ((l, b .begin-kept .ensures .1 .1 .0), (b .begin-kept .ensures .1 .1 .1 .0, b .begin-kept .ensures .1 .1 .1 .1 ∙ ap (λ (x : Looping). recordBegun (a .kept .now) (beginOf (a .slot) (a .channels) x (a .lent .now))) (m .mode-of .ensures)))))
 
 same-length-3 : tie.Need-same-length-3
-same-length-3 c = search needs
+same-length-3 c = c .before .before .before .before .before .kept .given
 
 same-length-4 : tie.Need-same-length-4
-same-length-4 c = search needs
+same-length-4 c = c .before .before .before .lent .given
 
 returns-3 : tie.Need-returns-3
 returns-3 c =

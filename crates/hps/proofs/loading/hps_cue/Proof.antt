@@ -1,11 +1,10 @@
-use mathlib.Core.Path.{_≡_, refl, ap, sym, _∙_}
+use mathlib.Core.Path.{refl, ap, _∙_}
 use borrow.Author.Tests.{lt-ltb, le-ltb}
 use Rattle.kept_loading.specs.declared.KeptCall.{KeptCall}
 use Rattle.writer.specs.Calls.{cueOf}
 use Rattle.writer.specs.declared.CueKind.{CueKind}
 use Rattle.kept_writer.specs.KeptWriter.{writerIn}
 use Rattle.kept_loading.specs.KeptLoading.{onKept, recordAfter}
-use borrow.Author.Needs.{needs}
 use Rattle.hps.proofs.loading.hps_cue.Statement.{statement}
 use Rattle.hps.proofs.loading.hps_cue.Tie as tie
 use Rattle.hps.proofs.loading.hps_cue.Reads as reads
@@ -17,13 +16,13 @@ returns : tie.Need-returns
 returns c = rw (lt-ltb 2 (c .before .before .args .kind) (c .if1 .taken)) (refl, (λ _. refl, (refl, refl)))
 
 kind-of-requires : tie.Need-kind-of-requires
-kind-of-requires c κs = search needs
+kind-of-requires c κs = tt
 
 cue-kept-requires : tie.Need-cue-kept-requires
-cue-kept-requires c κs = search needs
+cue-kept-requires c κs = tt
 
 same-length : tie.Need-same-length
-same-length c = search needs
+same-length c = c .before .kept .given
 
 returns-2 : tie.Need-returns-2
 returns-2 c =

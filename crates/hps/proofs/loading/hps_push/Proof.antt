@@ -12,7 +12,7 @@ use Rattle.hps.proofs.loading.hps_push.Statement.{statement}
 use Rattle.hps.proofs.loading.hps_push.Tie as tie
 use Rattle.hps.proofs.loading.hps_push.Reads as reads
 use Rattle.hps.proofs.loading.hps_push.Lts as lts
-use Rattle.kept_loading.proofs.push_kept.Reads as push-kept-reads
+use Rattle.kept_pushing.proofs.push_kept.Reads as push-kept-reads
 use Rattle.kept_sides.proofs.side_in.Reads as side-in-reads
 
 side-in-requires : tie.Need-side-in-requires
@@ -25,10 +25,10 @@ push-kept-requires : tie.Need-push-kept-requires
 push-kept-requires c κs = search needs
 
 same-length : tie.Need-same-length
-same-length c = search needs
+same-length c = c .before .before .before .before .before .kept .given
 
 same-length-2 : tie.Need-same-length-2
-same-length-2 c = search needs
+same-length-2 c = c .before .before .before .lent .given
 
 returns : tie.Need-returns
 returns c =
@@ -43,10 +43,10 @@ returns c =
     (ap (λ (x : KeptCall). x .number) q, (ap (λ (x : KeptCall). x .offset) q ∙ given _ _ _ (c .if1 .taken), (ap (λ (x : KeptCall). x .length) q ∙ given _ _ _ (c .if1 .taken), (b, (u .push-kept .ensures .1 .1 .0, (u .push-kept .ensures .1 .1 .1 .0, u .push-kept .ensures .1 .1 .1 .1 ∙ ap (recordAfter (a .kept .now)) both))))))
 
 same-length-3 : tie.Need-same-length-3
-same-length-3 c = search needs
+same-length-3 c = c .before .before .before .before .before .kept .given
 
 same-length-4 : tie.Need-same-length-4
-same-length-4 c = search needs
+same-length-4 c = c .before .before .before .lent .given
 
 returns-2 : tie.Need-returns-2
 returns-2 c =

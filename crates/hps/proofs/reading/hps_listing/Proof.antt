@@ -5,7 +5,7 @@ use Rattle.hps.proofs.reading.hps_listing.Tie as tie
 use Rattle.hps.proofs.reading.hps_listing.Reads as reads
 use Rattle.hps.proofs.reading.hps_listing.Lts as lts
 use Rattle.listing.proofs.listing.fill.Reads as fill-reads
-use Rattle.listing.proofs.listing.start_listing.Reads as start-listing-reads
+use Rattle.listing_start.proofs.start_listing.Reads as start-listing-reads
 
 start-listing-requires : tie.Need-start-listing-requires
 start-listing-requires c κs = tt

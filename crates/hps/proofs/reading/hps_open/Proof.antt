@@ -2,12 +2,12 @@ use denote.Ref.{now}
 use Rattle.reader.specs.OpeningAndReading.{opening}
 use Rattle.hps.proofs.ExportedLaws.{no-room, no-room-kept, open-refused, open-left, open-opened, open-kept}
 use Rattle.kept_reader.proofs.ReadBackLaws.{opened-long}
-use Rattle.listing.proofs.StartLaws.{call-refused, call-opened}
+use Rattle.listing_start.proofs.StartLaws.{call-refused, call-opened}
 use Rattle.hps.proofs.reading.hps_open.Statement.{statement}
 use Rattle.hps.proofs.reading.hps_open.Tie as tie
 use Rattle.hps.proofs.reading.hps_open.Reads as reads
 use Rattle.hps.proofs.reading.hps_open.Lts as lts
-use Rattle.kept_reader.proofs.opened.put_opened.Reads as put-opened-reads
+use Rattle.kept_opened.proofs.put_opened.Reads as put-opened-reads
 use Rattle.opening.proofs.open.Reads as open-reads
 
 returns : tie.Need-returns

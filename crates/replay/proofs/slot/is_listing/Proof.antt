@@ -11,7 +11,7 @@ use Rattle.replay.proofs.slot.is_listing.Lts as lts
 use Rattle.check.proofs.same.Reads as same-reads
 use Rattle.io.proofs.large_buffer.Reads as large-buffer-reads
 use Rattle.listing.proofs.listing.fill.Reads as fill-reads
-use Rattle.listing.proofs.listing.start_listing.Reads as start-listing-reads
+use Rattle.listing_start.proofs.start_listing.Reads as start-listing-reads
 use Rattle.stored.proofs.part.Reads as part-reads
 
 abbrev Inv-loop : tie.InvT-loop

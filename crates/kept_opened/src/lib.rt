@@ -1,0 +1,68 @@
+// The opening record put into lent bytes.
+use kept_reader::opened::BLOCKS_AT;
+use kept_reader::opened::LOOP_AT;
+use kept_reader::opened::NO_LOOP;
+use kept_reader::opened::OFFSETS_AT;
+use puts::put_bytes;
+use puts::put_u32;
+use puts::put_zeros;
+use reader::HpsReader;
+use reader::LoopStart;
+ghost use mathlib.Core.Path.{_≡_};
+ghost use Prim.Native.Nat.{_≤_};
+ghost use lib.ListN.{length, take};
+ghost use Rattle.layout.specs.Lists.{concat};
+ghost use Rattle.layout.specs.Records.{be32};
+ghost use Rattle.layout.specs.Puts.{putAt};
+ghost use Rattle.reader.specs.OpeningAndReading.{Readable};
+ghost use Rattle.kept_reader.specs.KeptReader.{loopNumber, fileKept, openedBytes};
+
+const FILE_SIZE: usize = 128;
+
+const SECOND_AT: usize = 72;
+
+fn loop_number(start: LoopStart) -> u32
+    ensures { λ n. ⌜ n ≡ loopNumber start ⌝ }
+{
+    match start {
+        LoopStart::None => NO_LOOP,
+        LoopStart::Block(i) => (i % 4294967296) as u32,
+    }
+}
+
+fn put_offsets(kept: &mut [u8], r: HpsReader)
+    requires { ⌜ Readable r × (2184 ≤ length (now kept)) ⌝ }
+    ensures { λ _. ⌜ now (kept .exit) ≡ putAt (now (kept .entry)) 136 (concat be32 (take (r .blocks) (r .offsets))) ⌝ }
+{
+    let mut i: usize = 0;
+    while i < r.blocks {
+        let offset = r.offsets[i];
+        put_u32(kept, OFFSETS_AT + 4 * i, offset);
+        i += 1;
+    }
+}
+
+// The file header; the second channel's place has zeros where it is not in use.
+fn put_file(kept: &mut [u8], s: &[u8], count: usize)
+    requires { ⌜ (128 ≤ length (now s)) × (2184 ≤ length (now kept)) ⌝ }
+    ensures { λ _. ⌜ now (kept .exit) ≡ putAt (now (kept .entry)) 0 (fileKept (now (s .entry)) count) ⌝ }
+{
+    if count == 2 {
+        put_bytes(kept, 0, &s[..FILE_SIZE]);
+        return;
+    }
+    put_bytes(kept, 0, &s[..SECOND_AT]);
+    put_zeros(kept, SECOND_AT, 56);
+}
+
+// The record of a slot that was opened.
+pub fn put_opened(kept: &mut [u8], s: &[u8], r: HpsReader)
+    requires { ⌜ Readable r × ((128 ≤ length (now s)) × (2184 ≤ length (now kept))) ⌝ }
+    ensures { λ _. ⌜ now (kept .exit) ≡ putAt (now (kept .entry)) 0 (openedBytes (now (s .entry)) r) ⌝ }
+{
+    put_file(kept, s, r.count);
+    put_u32(kept, BLOCKS_AT, (r.blocks % 4294967296) as u32);
+    let start = r.loop_start;
+    put_u32(kept, LOOP_AT, loop_number(start));
+    put_offsets(kept, r);
+}

@@ -1,0 +1,260 @@
+use Prim.Native.Nat.{_<_}
+use mathlib.Core.Path.{_≡_, refl, ap, sym, _∙_}
+use mathlib.Core.Bool.{Bool}
+use native.Mathlib.Omega.{arith}
+use lib.ListN.{length}
+use lib.Seq.{slice}
+use Rattle.writer.specs.Loading.{Push, anyLoop}
+use Rattle.writer.specs.Calls.{pushOf}
+use Rattle.push_due.specs.PushDue.{pushArgs}
+use Rattle.push_plan.specs.declared.Stream.{Stream}
+use Rattle.push_plan.specs.PushPlan.{endFrom, loopFrom, planOf, advanced}
+use Rattle.layout.specs.Puts.{putAt}
+use Rattle.puts.proofs.PutLaws.{putAt-length}
+use Rattle.taking.specs.Taking.{filledBytes}
+use Rattle.kept_sides.specs.KeptSides.{tableIn}
+use Rattle.kept_writer.specs.KeptWriter.{streamIn, writerIn, takenIn, heldIn}
+use Rattle.kept_writer.proofs.KeptLaws.{kept-good, loop-same}
+use Rattle.block_writer.proofs.PushLaws.{push-refused, push-accepted, sound, to-within, few-points, are-taken, Worked, due-is, passes, starts, totals, sized, room, bytes-are}
+use Rattle.kept_loading.proofs.CallLaws.{no-record, gave, none-after, some-after}
+use Rattle.kept_record.specs.KeptRecord.{pushedBytes}
+use Rattle.kept_loading.proofs.AfterLaws.{holds}
+use Rattle.kept_loading.proofs.BackLaws.{SideFits}
+use Rattle.kept_pushing.proofs.PushedLaws.{signed-field, push-after, push-left}
+use borrow.Author.Needs.{needs}
+use Rattle.kept_pushing.proofs.push_kept.Statement.{statement}
+use Rattle.kept_pushing.proofs.push_kept.Tie as tie
+use Rattle.kept_pushing.proofs.push_kept.Reads as reads
+use Rattle.kept_pushing.proofs.push_kept.Lts as lts
+use Rattle.block_writer.proofs.push.put_data.Reads as put-data-reads
+use Rattle.kept_record.proofs.put_pushed.Reads as put-pushed-reads
+use Rattle.kept_loading.proofs.refused.Reads as refused-reads
+use Rattle.kept_writer.proofs.loader.held_kept.Reads as held-kept-reads
+use Rattle.kept_writer.proofs.loader.put_taken_kept.Reads as put-taken-kept-reads
+use Rattle.kept_writer.proofs.loader.stream_in.Reads as stream-in-reads
+use Rattle.kept_writer.proofs.loader.take_kept.Reads as take-kept-reads
+use Rattle.push_advance.proofs.advance.Reads as advance-reads
+use Rattle.push_plan.proofs.block_end.Reads as block-end-reads
+use Rattle.push_plan.proofs.plan_push.Reads as plan-push-reads
+use Rattle.written.proofs.put_header.Reads as put-header-reads
+
+-- ---- What is known at the places of the code
+
+abbrev start : tie.Else1 → tie.Start
+start c = c .before .before .before .before .before .before .before .before
+
+-- the push, in the words of the definitions
+abbrev pushed : tie.Start → Push
+pushed s = pushArgs (s .args .channels) (s .args .left) (s .args .right) (s .args .left-data .now) (s .args .right-data .now) (s .args .last)
+
+-- the record that the bytes hold, without its table
+stream : (c : tie.Else1) → c .before .before .stream-in .result ≡ streamIn (start c .args .kept .now)
+stream c = c .before .before .stream-in .ensures
+
+ends : (c : tie.After-block-end) → c .block-end .result ≡ endFrom (streamIn (start (c .before) .args .kept .now) .base) (start (c .before) .args .left .length)
+ends c = c .block-end .ensures ∙ ap (λ (m : Stream). endFrom (m .base) (start (c .before) .args .left .length)) (stream (c .before))
+
+takes : (c : tie.After-take-kept) → let s = start (c .before .before .before) in
+    c .take-kept .result ≡ takenIn (s .args .kept .now) (streamIn (s .args .kept .now) .next) (streamIn (s .args .kept .now) .count) (c .before .before .block-end .result) (s .args .last)
+takes c =
+    let s = start (c .before .before .before) in
+    c .take-kept .ensures ∙ ap (λ (m : Stream). takenIn (s .args .kept .now) (m .next) (m .count) (c .before .before .block-end .result) (s .args .last)) (stream (c .before .before .before))
+
+worked : (p : tie.After-plan-push) → let s = start (p .before .before .before .before .before .before) in
+    Worked (writerIn (s .args .kept .now)) (s .args .channels) (s .args .left) (s .args .right) (s .args .left-data .now) (s .args .right-data .now) (s .args .last) (s .args .lent .now)
+    (p .before .before .before .before .before .block-end .result) (p .before .before .before .take-kept .result) (p .before .held-kept .result) (p .plan-push .result)
+worked p =
+    let e = p .before .before .before .before .before .before in
+    let s = start e in
+    let k = s .args .kept .now in
+    record {
+      good = kept-good k;
+      ends = ends (p .before .before .before .before .before);
+      takes = takes (p .before .before .before);
+      loops =
+          ap (λ (b : Bool). loopFrom (streamIn k) b (p .before .before .before .take-kept .result .asked) (p .before .before .before .before .before .block-end .result) (s .args .last))
+          (p .before .held-kept .ensures ∙ ap (λ (m : Stream). heldIn (m .mode) (m .loopat) (anyLoop (slice 0 (m .count) (tableIn k 184 (m .count))))) (stream e))
+          ∙ loop-same (streamIn k) _ _ _ _;
+      plans =
+          p .plan-push .ensures
+          ∙ ap (λ (m : Stream). planOf m (p .before .before .before .take-kept .result) (p .before .held-kept .result) (p .before .before .before .before .before .block-end .result) (s .args .channels) (s .args .left) (s .args .right) (length (s .args .left-data .now)) (length (s .args .right-data .now)) (s .args .last) (length (s .args .lent .now))) (stream e);
+    }
+
+-- the bytes hold a record
+some : (c : tie.Else1) → streamIn (start c .args .kept .now) .slot ≡ 0 → ⊥
+some c z = c .if1 .left (ap (λ (m : Stream). m .slot) (stream c) ∙ z)
+
+channels : (c : tie.Else1) → c .before .before .stream-in .result .channels < 18446744073709551616
+channels c = search needs
+
+-- the sides are values of their types
+left-fits : (z : tie.Start) → SideFits (z .args .left)
+left-fits z =
+    record {
+      typed = record {
+        rate = search needs;
+        addresses = search needs;
+        coefficients = record { sixteen = search needs; each = search (signed-field, needs) };
+        gain = search needs;
+        context = record { scale = search needs; last = search needs; oldest = search needs };
+      };
+      short = z .pre .0;
+    }
+
+right-fits : (z : tie.Start) → SideFits (z .args .right)
+right-fits z =
+    record {
+      typed = record {
+        rate = search needs;
+        addresses = search needs;
+        coefficients = record { sixteen = search needs; each = search (signed-field, needs) };
+        gain = search needs;
+        context = record { scale = search needs; last = search needs; oldest = search needs };
+      };
+      short = z .pre .1;
+    }
+
+-- ---- The needs
+
+stream-in-requires : tie.Need-stream-in-requires
+stream-in-requires c κs = search needs
+
+refused-requires : tie.Need-refused-requires
+refused-requires c κs = search needs
+
+same-length : tie.Need-same-length
+same-length c = search needs
+
+returns : tie.Need-returns
+returns c =
+    let s = c .before .before .before .before .before .before .before .before .before in
+    let k = s .args .kept .now in
+    let h : streamIn k .slot ≡ 0 = sym (ap (λ (m : Stream). m .slot) (c .before .before .before .stream-in .ensures)) ∙ c .before .if1 .taken in
+    let q = no-record k (s .args .lent .now) (pushOf (writerIn k) (pushed s) (s .args .lent .now)) h _ (c .refused .ensures) in
+    (q .0, (q .1, (λ _. refl, (refl, none-after k (pushOf (writerIn k) (pushed s) (s .args .lent .now)) h))))
+
+block-end-requires : tie.Need-block-end-requires
+block-end-requires c κs = let g = kept-good (start c .args .kept .now) in rw (stream c) (omega (arith, g .base, g .many))
+
+take-kept-requires : tie.Need-take-kept-requires
+take-kept-requires c κs = let g = kept-good (start (c .before .before) .args .kept .now) in rw (stream (c .before .before)) (g .placed, g .few)
+
+held-kept-requires : tie.Need-held-kept-requires
+held-kept-requires c κs = let e = c .before .before .before .before in rw (stream e) (kept-good (start e .args .kept .now) .few)
+
+plan-push-requires : tie.Need-plan-push-requires
+plan-push-requires c κs =
+    let e = c .before .before .before .before .before in
+    let k = start e .args .kept .now in
+    (rw (stream e) (sound (writerIn k) (kept-good k)), few-points (writerIn k) (kept-good k) _ _ _ (takes (c .before .before)))
+
+refused-requires-2 : tie.Need-refused-requires-2
+refused-requires-2 c κs = search needs
+
+same-length-2 : tie.Need-same-length-2
+same-length-2 c = search needs
+
+returns-2 : tie.Need-returns-2
+returns-2 c =
+    let p = c .before .before .before in
+    let e = p .before .before .before .before .before .before in
+    let s = start e in
+    let k = s .args .kept .now in
+    let q = push-refused (writerIn k) (pushed s) (s .args .lent .now) _ (due-is (worked p)) (c .before .if2 .taken) _ refl in
+    let r = gave k (s .args .lent .now) (pushOf (writerIn k) (pushed s) (s .args .lent .now)) (some e) _ _ q in
+    (c .refused2 .ensures ∙ r .0, (r .1, (λ _. refl, (refl, some-after k (pushOf (writerIn k) (pushed s) (s .args .lent .now)) (some e) _ (push-left k (pushed s) (s .args .lent .now) _ (due-is (worked p)) (c .before .if2 .taken))))))
+
+put-header-requires : tie.Need-put-header-requires
+put-header-requires c κs = search needs
+
+put-taken-kept-requires : tie.Need-put-taken-kept-requires
+put-taken-kept-requires c κs =
+    let d = c .before .before .before .before .before .before .before in
+    let p = d .before .before in
+    let e = p .before .before .before .before .before .before in
+    let k = start e .args .kept .now in
+    let g = kept-good k in
+    let w = worked p in (
+      (rw (stream e) (g .few), to-within (writerIn k) g _ _ _ (w .takes), rw (stream e) (omega (arith, g .named, g .placed, g .few))),
+      (rw (stream e) (are-taken (writerIn k) g _ _ _ (w .takes)), omega (arith, totals w (d .if2 .left), room w (d .if2 .left) .1)),
+    )
+
+put-data-requires : tie.Need-put-data-requires
+put-data-requires c κs =
+    let d = c .before .before .before .before .before .before .before .before .before .before .before in
+    let w = worked (d .before .before) in
+    omega (arith, starts w (d .if2 .left), totals w (d .if2 .left), room w (d .if2 .left) .1)
+
+advance-requires : tie.Need-advance-requires
+advance-requires c κs =
+    let d = c .before .before .before .before .before .before .before .before .before .before .before .before .before .before in
+    let p = d .before .before in
+    let e = p .before .before .before .before .before .before in
+    let k = start e .args .kept .now in
+    let g = kept-good k in
+    let w = worked p in
+    let h = passes w (d .if2 .left) in
+    let few = few-points (writerIn k) g _ _ _ (w .takes) in
+    rw (stream e) (
+      omega (arith, g .named, g .placed, g .few, few),
+      h .few,
+      few,
+      omega (arith, room w (d .if2 .left) .0, g .small),
+      omega (arith, h .short, g .sums, g .many),
+    )
+
+put-pushed-requires : tie.Need-put-pushed-requires
+put-pushed-requires c κs =
+    let e = c .before .before .before .before .before .before .before .before .before .before .before .before .before .before .before .before .before .before .before .before .before .before .before .before in
+    omega (arith, holds (start e .args .kept .now) (some e) .room)
+
+same-length-3 : tie.Need-same-length-3
+same-length-3 c = search needs
+
+same-length-4 : tie.Need-same-length-4
+same-length-4 c = search needs
+
+returns-3 : tie.Need-returns-3
+returns-3 c =
+    let d = c .before .before .before .before .before .before .before .before .before .before .before .before .before .before .before .before .before .before .before in
+    let p = d .before .before in
+    let e = p .before .before .before .before .before .before in
+    let s = start e in
+    let k = s .args .kept .now in
+    let w = worked p in
+    let z = d .if2 .left in
+    let put = c .before .before .before .before .before .before .before .before .before .before .before .put-taken-kept .ensures
+    ∙ ap (λ (m : Stream). putAt (c .before .before .before .before .before .before .before .before .before .before .before .before .before .before .before .before .put-header .last .0) 32 (filledBytes (m .base) (m .id) (slice (m .next) (p .before .before .before .take-kept .result .to) (tableIn k 184 (m .count))))) (stream e) in
+    let b = bytes-are w z _ _ _ (c .before .before .before .before .before .before .before .before .before .before .before .before .before .before .before .before .put-header .ensures) put (c .before .before .before .before .before .before .before .put-data .ensures) in
+    let q = push-accepted (writerIn k) (pushed s) (s .args .lent .now) _ (due-is w) z _ _ _ refl (sized w z) (room w z .1) b in
+    let r = gave k (s .args .lent .now) (pushOf (writerIn k) (pushed s) (s .args .lent .now)) (some e) _ _ q in
+    let t = p .before .before .before .take-kept .result in
+    let end = p .before .before .before .before .before .block-end .result in
+    let next : Stream → Stream = λ m. advanced m t end (p .plan-push .result .size) (p .plan-push .result .loopat) (s .args .left) (s .args .right) (s .args .last) in
+    let after = c .before .before .put-pushed .ensures ∙ ap (λ (m : Stream). putAt k 0 (pushedBytes m)) (c .before .before .before .before .advance .ensures ∙ ap next (stream e)) in
+    let long : streamIn k .channels < 18446744073709551616 = omega (arith, channels e, ap (λ (m : Stream). m .channels) (stream e)) in
+    (ap (λ (m : Stream). record { number = 0; offset = m .offset; length = p .plan-push .result .size }) (stream e) ∙ r .0, (r .1, (λ h. absurd (omega arith), (ap length after ∙ putAt-length _ _ _, some-after k (pushOf (writerIn k) (pushed s) (s .args .lent .now)) (some e) _ (ap writerIn after ∙ push-after k (some e) w z (left-fits s) (right-fits s) long)))))
+
+pub push-kept-spec : {M : Type 1} → statement M
+push-kept-spec =
+    tie.close
+    (tie.spec
+    stream-in-requires
+    refused-requires
+    same-length
+    returns
+    block-end-requires
+    take-kept-requires
+    held-kept-requires
+    plan-push-requires
+    refused-requires-2
+    same-length-2
+    returns-2
+    put-header-requires
+    put-taken-kept-requires
+    put-data-requires
+    advance-requires
+    put-pushed-requires
+    same-length-3
+    same-length-4
+    returns-3)

@@ -1,0 +1,91 @@
+// Push on a record in lent bytes.
+use block_writer::push::HEADER_SIZE;
+use block_writer::push::put_data;
+use kept_loading::KeptCall;
+use kept_loading::refused;
+use kept_reader::NO_RECORD;
+use kept_record::put_pushed;
+use kept_writer::loader::held_kept;
+use kept_writer::loader::put_taken_kept;
+use kept_writer::loader::stream_in;
+use kept_writer::loader::take_kept;
+use push_advance::advance;
+use push_plan::block_end;
+use push_plan::plan_push;
+use writer::ChannelBlock;
+use written::put_header;
+ghost use mathlib.Core.Path.{_≡_};
+ghost use Prim.Native.Nat.{_<_};
+ghost use lib.ListN.{length};
+ghost use Rattle.writer.specs.Calls.{pushOf};
+ghost use Rattle.push_due.specs.PushDue.{pushArgs};
+ghost use Rattle.kept_writer.specs.KeptWriter.{writerIn};
+ghost use Rattle.kept_loading.specs.KeptLoading.{onKept, lentAfter, Leaves, SameLength, recordAfter};
+
+// Push: as push on the record that the bytes hold, without a copy of its table.
+pub fn push_kept(
+    kept: &mut [u8],
+    channels: usize,
+    left: ChannelBlock,
+    right: ChannelBlock,
+    left_data: &[u8],
+    right_data: &[u8],
+    last: bool,
+    lent: &mut [u8],
+) -> KeptCall
+    requires { ⌜ (left .length < 4294967296) × (right .length < 4294967296) ⌝ }
+    ensures { λ q. ⌜ q ≡ onKept (now (kept .entry)) (pushOf (writerIn (now (kept .entry))) (pushArgs channels left right (now («left_data» .entry)) (now («right_data» .entry)) last) (now (lent .entry))) ⌝ }
+    ensures { λ _. ⌜ now (lent .exit) ≡ lentAfter (now (kept .entry)) (now (lent .entry)) (pushOf (writerIn (now (kept .entry))) (pushArgs channels left right (now («left_data» .entry)) (now («right_data» .entry)) last) (now (lent .entry))) ⌝ }
+    ensures { λ q. ⌜ Leaves (q .number) (now (kept .entry)) (now (kept .exit)) ⌝ }
+    ensures { λ _. ⌜ SameLength (now (kept .entry)) (now (kept .exit)) × (writerIn (now (kept .exit)) ≡ recordAfter (now (kept .entry)) (pushOf (writerIn (now (kept .entry))) (pushArgs channels left right (now («left_data» .entry)) (now («right_data» .entry)) last) (now (lent .entry)))) ⌝ }
+{
+    let s = stream_in(kept);
+    if s.slot == 0 {
+        return refused(NO_RECORD);
+    }
+    let mode = s.mode;
+    let former = s.loopat;
+    let end = block_end(s.base, left.length);
+    let taken = take_kept(kept, s.next, s.count, end, last);
+    let held = held_kept(kept, mode, former, s.count);
+    let left_bytes = left_data.len();
+    let right_bytes = right_data.len();
+    let plan = plan_push(
+        s,
+        taken,
+        held,
+        end,
+        channels,
+        left,
+        right,
+        left_bytes,
+        right_bytes,
+        last,
+        lent.len(),
+    );
+    if plan.due != 0 {
+        return refused(plan.due);
+    }
+    let header = plan.header;
+    put_header(lent, 0, header);
+    put_taken_kept(
+        lent,
+        HEADER_SIZE,
+        kept,
+        s.count,
+        s.next,
+        taken.to,
+        s.base,
+        s.id,
+        taken.points,
+    );
+    put_data(lent, plan.start, channels, left_data, right_data);
+    let loopat = plan.loopat;
+    let after = advance(s, taken, end, plan.size, loopat, left, right, last);
+    put_pushed(kept, after);
+    KeptCall {
+        number: 0,
+        offset: s.offset,
+        length: plan.size,
+    }
+}

@@ -1,0 +1,53 @@
+// The writer's record put into lent bytes after a push: numbers and sides.
+use header_bytes::put_coefficients;
+use kept_puts::put_numbers;
+use push_plan::Stream;
+use puts::put_context;
+use puts::put_u16;
+use puts::put_u32;
+use writer::ChannelBlock;
+ghost use mathlib.Core.Path.{_≡_};
+ghost use mathlib.Core.List.{_++_};
+ghost use Prim.Native.Nat.{_+_, _<_, _≤_};
+ghost use lib.ListN.{length};
+ghost use Rattle.layout.specs.Puts.{putAt};
+ghost use Rattle.kept_record.specs.KeptRecord.{sideBytes, pushedBytes};
+
+const LEFT_AT: usize = 88;
+
+const RIGHT_AT: usize = 136;
+
+fn put_side(buf: &mut [u8], at: usize, side: ChannelBlock)
+    requires { ⌜ (at < 4096) × (at + 48 ≤ length (now buf)) ⌝ }
+    ensures { λ _. ⌜ now (buf .exit) ≡ putAt (now (buf .entry)) at (sideBytes side) ⌝ }
+{
+    put_u32(buf, at, side.rate);
+    put_u32(buf, at + 4, (side.length % 4294967296) as u32);
+    let coefficients = side.coefficients;
+    put_coefficients(buf, at + 8, coefficients);
+    put_u16(buf, at + 40, side.gain);
+    let context = side.context;
+    put_context(buf, at + 42, context);
+}
+
+// The first block's sides.
+pub fn put_sides(kept: &mut [u8], left: ChannelBlock, right: ChannelBlock)
+    requires { ⌜ 184 ≤ length (now kept) ⌝ }
+    ensures { λ _. ⌜ now (kept .exit) ≡ putAt (now (kept .entry)) 88 (sideBytes left ++ sideBytes right) ⌝ }
+{
+    put_side(kept, LEFT_AT, left);
+    put_side(kept, RIGHT_AT, right);
+}
+
+// The numbers after a push, and after the first the sides: after a later block they stand there already.
+pub fn put_pushed(kept: &mut [u8], s: Stream)
+    requires { ⌜ 184 ≤ length (now kept) ⌝ }
+    ensures { λ _. ⌜ now (kept .exit) ≡ putAt (now (kept .entry)) 0 (pushedBytes s) ⌝ }
+{
+    put_numbers(kept, s);
+    if s.blocks == 1 {
+        let left = s.left;
+        let right = s.right;
+        put_sides(kept, left, right);
+    }
+}

@@ -1,0 +1,14 @@
+use Rattle.push_due.proofs.DecideLaws.{picked}
+use Rattle.push_advance.proofs.first_side.Statement.{statement}
+use Rattle.push_advance.proofs.first_side.Tie as tie
+use Rattle.push_advance.proofs.first_side.Reads as reads
+use Rattle.push_advance.proofs.first_side.Lts as lts
+
+returns : tie.Need-returns
+returns c = search picked
+
+returns-2 : tie.Need-returns-2
+returns-2 c = search picked
+
+pub first-side-spec : {M : Type 1} → statement M
+first-side-spec = tie.close (tie.spec returns returns-2)

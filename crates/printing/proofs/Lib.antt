@@ -1,1 +1,1 @@
-pub mod AlikeLaws
+pub mod PortionLaws

@@ -1,1 +1,1 @@
-pub mod Stops
+pub mod Portions

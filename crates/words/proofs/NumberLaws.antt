@@ -1,17 +1,20 @@
 -- A decimal read digit by digit.
-use Prim.Native.Nat.{ℕ, suc, _+_, _-_, _*_, _<_, _≤_}
-use mathlib.Core.Path.{_≡_, refl, sym, _∙_}
-use mathlib.Core.Bool.{true, false}
+use Prim.Native.Nat.{ℕ, zero, suc, _+_, _-_, _*_, _<_, _≤_}
+use mathlib.Core.Path.{_≡_, refl, ap, sym, _∙_}
+use mathlib.Core.Bool.{true}
 use mathlib.Core.List.{List, [], _∷_}
 use native.Mathlib.Omega.{arith}
 use native.Mathlib.Numerals.{add-one}
-use lib.ListN.{length, getD, drop}
-use lib.Seq.{drop-cons, drop-length}
-use lib.Dec.{leb}
-use borrow.Author.Tests.{le-leb, lt-leb}
-use Rattle.layout.specs.Choice.{pick, _and_}
-use Rattle.words.specs.Numbers.{noNumber, decimalFrom, decimalOf}
+use lib.ListN.{length, getD, take, drop}
+use lib.Seq.{drop-cons, drop-length, take-length}
+use lib.IntN.{pos}
+use borrow.Author.Tests.{le-leb, lt-leb, eq-eqb, ne-eqb}
+use mir.Syntax.{w16}
+use mir.Val.{toZ}
+use mir.ValLaws.{toZ-pos, toZ-neg}
+use Rattle.words.specs.Numbers.{noNumber, decimalFrom, decimalOf, under, below0, from0, smallOf}
 use Rattle.words.specs.declared.numbers.Number.{Number}
+use Rattle.words.specs.declared.numbers.Small.{Small}
 
 -- The first i digits of a word make v.
 pub record Reading (max : ℕ) (word : List ℕ) (v i : ℕ) : Type 0 where
@@ -66,3 +69,39 @@ unfolding decimalFrom
 all {word = word} {i = i} r h =
     let e : i ≡ length word = omega (arith, r .few) in
     (sym (r .is ∙ rw (e, drop-length)), r .small)
+
+-- ---- Numbers with a sign
+
+turned : (v : ℕ) → (v ≡ 0 → ⊥) → v ≤ 32768 → toZ w16 (65535 - (v - 1)) ≡ under v
+turned zero z h = absurd (z refl)
+turned (suc k) z h =
+    let e : 65535 - (suc k - 1) ≡ 65536 - suc k = omega arith in
+    ap (toZ w16) e ∙ toZ-neg w16 k (omega arith)
+
+pub minus-none : (n : Number) → n .value ≡ 0 → record { good = n .good; value = pos 0 } ≡ below0 n
+unfolding below0
+minus-none n e = rw e
+
+pub minus-some : (n : Number) → (n .value ≡ 0 → ⊥) → n .value ≤ 32768 → record { good = n .good; value = toZ w16 (65535 - (n .value - 1)) } ≡ below0 n
+unfolding below0
+minus-some n z h = rw (turned (n .value) z h)
+
+pub minus-word : (word : List ℕ) {n : Number} {x : Small} → 0 < length word → getD word 0 0 ≡ 45 → n ≡ decimalOf 32768 (take (length word - 1) (drop 1 word)) → x ≡ below0 n → x ≡ smallOf word
+unfolding smallOf
+minus-word [] h t e f = absurd (omega arith)
+minus-word (b ∷ bs) h t e f =
+    let l : length (b ∷ bs) - 1 ≡ length bs = omega arith in
+    f ∙ rw (eq-eqb b 45 t, e, l, take-length)
+
+pub empty-start : (word : List ℕ) → length word ≤ 0 → getD word 0 0 ≡ 45 → ⊥
+empty-start [] h e = omega arith
+empty-start (b ∷ bs) h e = omega arith
+
+plain : (word : List ℕ) {n : Number} → (getD word 0 0 ≡ 45 → ⊥) → n ≡ decimalOf 32767 word → from0 n ≡ smallOf word
+unfolding smallOf decimalOf
+plain [] t e = ap from0 e
+plain (b ∷ bs) t e = rw (ne-eqb b 45 t, e)
+
+pub plain-word : (word : List ℕ) (n : Number) → (getD word 0 0 ≡ 45 → ⊥) → n ≡ decimalOf 32767 word → n .value ≤ 32767 → record { good = n .good; value = toZ w16 (n .value) } ≡ smallOf word
+unfolding from0
+plain-word word n t e h = rw (toZ-pos w16 (n .value) (omega arith)) (plain word t e)

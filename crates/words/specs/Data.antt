@@ -1,8 +1,9 @@
 -- Data, "two digits a byte".
 use Prim.Native.Nat.{ℕ, _+_, _-_, _*_}
 use mathlib.Core.List.{List, [], _∷_}
-use lib.Dec.{ltb}
-use Rattle.layout.specs.Choice.{pick}
+use mathlib.Core.Bool.{Bool, true, false}
+use lib.Dec.{ltb, leb, eqb}
+use Rattle.layout.specs.Choice.{pick, _or_, _and_}
 
 -- A hexadecimal digit's value, 0 where it is none: 48 is `0`, 65 `A`, 97 `a`.
 unfoldable pub digitOf : ℕ → ℕ
@@ -14,3 +15,19 @@ unfoldable pub dataOf : List ℕ → List ℕ
 dataOf [] = []
 dataOf (a ∷ []) = []
 dataOf (a ∷ b ∷ bs) = (16 * digitOf a + digitOf b) ∷ dataOf bs
+
+-- Is it a hexadecimal digit?
+unfoldable pub isDigit : ℕ → Bool
+isDigit b = (leb 48 b and leb b 57) or (leb 65 b and leb b 70) or (leb 97 b and leb b 102)
+
+-- Digits two by two.
+unfoldable pub twoByTwo : List ℕ → Bool
+twoByTwo [] = true
+twoByTwo (a ∷ []) = false
+twoByTwo (a ∷ b ∷ bs) = isDigit a and isDigit b and twoByTwo bs
+
+-- "HEX: the data, two digits a byte, `-` for none": 45 is `-`
+unfoldable pub isData : List ℕ → Bool
+isData [] = false
+isData (a ∷ []) = eqb a 45
+isData (a ∷ b ∷ bs) = twoByTwo (a ∷ b ∷ bs)

@@ -1,11 +1,16 @@
 // Data, two hexadecimal digits a byte; `-` for none.
 use layout::fields::inside;
 ghost use mathlib.Core.Path.{_≡_};
-ghost use Prim.Native.Nat.{_<_};
+ghost use Prim.Native.Nat.{_+_, _<_};
+ghost use lib.ListN.{length};
+ghost use lib.Dec.{leb};
+ghost use Rattle.layout.specs.Choice.{pick};
 ghost use Rattle.layout.specs.Puts.{putAt};
-ghost use Rattle.words.specs.Data.{digitOf, dataOf};
+ghost use Rattle.words.specs.Data.{digitOf, dataOf, isDigit, twoByTwo, isData};
 
-fn is_digit(byte: u8) -> bool {
+fn is_digit(byte: u8) -> bool
+    ensures { λ r. ⌜ r ≡ isDigit byte ⌝ }
+{
     match byte {
         48..=57 => true,
         65..=70 => true,
@@ -39,33 +44,43 @@ fn digit(byte: u8) -> u8
     0
 }
 
-fn all_digits(word: &[u8]) -> bool {
-    let mut i: usize = 0;
-    while i < word.len() {
-        if !is_digit(word[i]) {
+// Digits two by two.
+fn two_by_two(word: &[u8]) -> bool
+    ensures { λ r. ⌜ r ≡ twoByTwo (now (word .entry)) ⌝ }
+{
+    if word.len() % 2 == 1 {
+        return false;
+    }
+    let n = word.len() / 2;
+    let mut j: usize = 0;
+    while j < n {
+        if !is_digit(word[2 * j]) {
             return false;
         }
-        i += 1;
+        if !is_digit(word[2 * j + 1]) {
+            return false;
+        }
+        j += 1;
     }
     true
 }
 
-pub fn is_data(word: &[u8]) -> bool {
+pub fn is_data(word: &[u8]) -> bool
+    ensures { λ r. ⌜ r ≡ isData (now (word .entry)) ⌝ }
+{
     if word.len() == 0 {
         return false;
     }
     if word.len() == 1 {
         return word[0] == b'-';
     }
-    if word.len() % 2 == 1 {
-        return false;
-    }
-    all_digits(word)
+    two_by_two(word)
 }
 
 // Puts the bytes that a word of data says, and answers how many: nothing where they do not fit.
 pub fn put_data(out: &mut [u8], at: usize, word: &[u8]) -> usize
     ensures { λ r. ⌜ now (out .exit) ≡ putAt (now (out .entry)) at (dataOf (now (word .entry))) ⌝ }
+    ensures { λ r. ⌜ r ≡ pick (leb (at + length (dataOf (now (word .entry)))) (length (now (out .entry)))) (length (dataOf (now (word .entry)))) 0 ⌝ }
 {
     let n = word.len() / 2;
     if inside(out.len(), at, n) {

@@ -1,7 +1,7 @@
 // Decimals within their type's range.
 ghost use mathlib.Core.Path.{_≡_};
 ghost use Prim.Native.Nat.{_≤_};
-ghost use Rattle.words.specs.Numbers.{noNumber, decimalOf};
+ghost use Rattle.words.specs.Numbers.{noNumber, decimalOf, below0, smallOf};
 
 // 0 where the word is no number or over the range.
 pub struct Number {
@@ -54,23 +54,12 @@ pub fn unsigned(word: &[u8], max: u64) -> Number
     Number { good: true, value }
 }
 
-// The number with its sign: of a negative one the number below it, turned over.
-fn with_sign(n: Number, minus: bool) -> Small
+// A negative number: the one below it, turned over.
+fn negative(n: Number) -> Small
     requires { ⌜ n .value ≤ 32768 ⌝ }
+    ensures { λ r. ⌜ r ≡ below0 n ⌝ }
 {
     let good = n.good;
-    if !minus {
-        if n.value > 32767 {
-            return Small {
-                good: false,
-                value: 0,
-            };
-        }
-        return Small {
-            good,
-            value: n.value as i16,
-        };
-    }
     if n.value == 0 {
         return Small { good, value: 0 };
     }
@@ -81,11 +70,17 @@ fn with_sign(n: Number, minus: bool) -> Small
 }
 
 // A decimal of -32,768 to 32,767.
-pub fn signed(word: &[u8]) -> Small {
+pub fn signed(word: &[u8]) -> Small
+    ensures { λ r. ⌜ r ≡ smallOf (now (word .entry)) ⌝ }
+{
     if word.len() > 0 {
         if word[0] == b'-' {
-            return with_sign(unsigned(&word[1..], 32768), true);
+            return negative(unsigned(&word[1..], 32768));
         }
     }
-    with_sign(unsigned(word, 32768), false)
+    let n = unsigned(word, 32767);
+    Small {
+        good: n.good,
+        value: n.value as i16,
+    }
 }

@@ -1,59 +1,64 @@
 // Lines of a text and their words.
-use stored::part;
-ghost use Prim.Native.Nat.{_≤_};
-ghost use lib.ListN.{length};
+ghost use mathlib.Core.Path.{_≡_};
+ghost use Prim.Native.Nat.{_+_, _<_, _≤_};
+ghost use lib.ListN.{length, drop};
+ghost use Rattle.layout.specs.Lists.{firstIndex};
+ghost use lib.Dec.{eqb};
+ghost use Rattle.words.specs.Texts.{isBlank, stops, uncommented, lineOf, nextOf, wordAt, wordCount};
 
-// The most words that a line has: those of CHAN.
-pub const WORDS: usize = 24;
-
-// Where a line's words end, before its comment, and where the next line starts.
-pub struct Line {
-    pub end: usize,
-    pub next: usize,
-}
-
-// Where a line's words start and end. A count over 24 says that there are more.
-pub struct Words {
-    pub count: usize,
-    pub from: [usize; 24],
-    pub to: [usize; 24],
-}
-
-// The first place of a byte between two places, or the second where it isn't there.
-fn find(s: &[u8], from: usize, to: usize, byte: u8) -> usize
-    requires { ⌜ (from ≤ to) × (to ≤ length (now s)) ⌝ }
-    ensures { λ r. ⌜ (from ≤ r) × (r ≤ to) ⌝ }
+// The first place of a byte from here on, or the end.
+fn find(s: &[u8], from: usize, byte: u8) -> usize
+    requires { ⌜ from ≤ length (now s) ⌝ }
+    ensures { λ r. ⌜ (r ≡ from + firstIndex (λ b. eqb b byte) (drop from (now (s .entry)))) × (r ≤ length (now (s .entry))) ⌝ }
 {
     let mut i = from;
-    while i < to {
+    while i < s.len() {
         if s[i] == byte {
             return i;
         }
         i += 1;
     }
-    to
+    i
 }
 
-// The line that starts here.
-pub fn line_at(s: &[u8], at: usize) -> Line
-    requires { ⌜ at ≤ length (now s) ⌝ }
-    ensures { λ r. ⌜ LineIn (now (s .entry)) at r ⌝ }
+// A line before its comment.
+fn without_comment<'a>(line: &'a [u8]) -> &'a [u8]
+    ensures { λ r. ⌜ now r ≡ uncommented (now (line .entry)) ⌝ }
 {
-    let stop = find(s, at, s.len(), b'\n');
-    let end = find(s, at, stop, b'#');
-    if stop < s.len() {
-        return Line {
-            end,
-            next: stop + 1,
-        };
-    }
-    Line { end, next: stop }
+    let n = find(line, 0, b'#');
+    &line[..n]
 }
 
-ghost use Rattle.words.specs.Texts.{LineIn};
+// The line that starts here, without its comment.
+pub fn line_at<'a>(s: &'a [u8], at: usize) -> &'a [u8]
+    ensures { λ r. ⌜ now r ≡ lineOf (drop at (now (s .entry))) ⌝ }
+{
+    if at >= s.len() {
+        return &s[..0];
+    }
+    let end = find(s, at, b'\n');
+    without_comment(&s[at..end])
+}
+
+// Where the line after it starts.
+pub fn next_line(s: &[u8], at: usize) -> usize
+    ensures { λ r. ⌜ drop r (now (s .entry)) ≡ nextOf (drop at (now (s .entry))) ⌝ }
+    ensures { λ r. ⌜ (r ≤ length (now (s .entry))) × (at < length (now (s .entry)) → at < r) ⌝ }
+{
+    if at >= s.len() {
+        return s.len();
+    }
+    let end = find(s, at, b'\n');
+    if end < s.len() {
+        return end + 1;
+    }
+    end
+}
 
 // Blank, tab and carriage return stand between words.
-fn is_blank(byte: u8) -> bool {
+fn is_blank(byte: u8) -> bool
+    ensures { λ r. ⌜ r ≡ isBlank byte ⌝ }
+{
     match byte {
         b' ' => true,
         b'\t' => true,
@@ -62,67 +67,55 @@ fn is_blank(byte: u8) -> bool {
     }
 }
 
-// The first place from here on whose byte is blank, or isn't.
-fn past(s: &[u8], from: usize, to: usize, blank: bool) -> usize
-    requires { ⌜ (from ≤ to) × (to ≤ length (now s)) ⌝ }
-    ensures { λ r. ⌜ (from ≤ r) × (r ≤ to) ⌝ }
+// The first place from here on whose byte is blank, or isn't; or the end.
+fn stop_at(line: &[u8], from: usize, blank: bool) -> usize
+    requires { ⌜ from ≤ length (now line) ⌝ }
+    ensures { λ r. ⌜ (r ≡ from + firstIndex (stops blank) (drop from (now (line .entry)))) × (r ≤ length (now (line .entry))) ⌝ }
 {
     let mut i = from;
-    while i < to {
-        if is_blank(s[i]) == blank {
-            i += 1;
-        } else {
+    while i < line.len() {
+        if is_blank(line[i]) == blank {
             return i;
         }
+        i += 1;
     }
-    to
+    i
 }
 
-// A line with no word.
-pub fn no_words() -> Words {
-    Words {
-        count: 0,
-        from: [0; 24],
-        to: [0; 24],
-    }
-}
-
-// The words from here to the line's end.
-pub fn words_in(s: &[u8], at: usize, end: usize) -> Words
-    requires { ⌜ (at ≤ end) × (end ≤ length (now s)) ⌝ }
+// A word of a line, counted from 0; empty where there is none.
+pub fn word<'a>(line: &'a [u8], i: usize) -> &'a [u8]
+    ensures { λ r. ⌜ now r ≡ wordAt (now (line .entry)) i ⌝ }
 {
-    let mut starts = [0usize; 24];
-    let mut ends = [0usize; 24];
-    let mut count: usize = 0;
-    let mut i = at;
-    while count < WORDS {
-        let start = past(s, i, end, true);
-        if start == end {
-            break;
+    let mut at: usize = 0;
+    let mut k: usize = 0;
+    while k < i {
+        if at == line.len() {
+            return &line[..0];
         }
-        i = past(s, start, end, false);
-        starts[count] = start;
-        ends[count] = i;
-        count += 1;
+        at = stop_at(line, stop_at(line, at, false), true);
+        k += 1;
     }
-    if past(s, i, end, true) < end {
-        count = WORDS + 1;
-    }
-    Words {
-        count,
-        from: starts,
-        to: ends,
-    }
+    let from = stop_at(line, at, false);
+    let to = stop_at(line, from, true);
+    &line[from..to]
 }
 
-// A word, empty where the line has none there.
-pub fn word<'a>(s: &'a [u8], w: Words, i: usize) -> &'a [u8] {
-    if i < WORDS {
-        let from = w.from[i];
-        let to = w.to[i];
-        if from <= to {
-            return part(s, from, to - from);
+// How many words a line has.
+pub fn word_count(line: &[u8]) -> usize
+    ensures { λ r. ⌜ r ≡ wordCount (now (line .entry)) ⌝ }
+{
+    let mut count: usize = 0;
+    let mut apart = true;
+    let mut i: usize = 0;
+    while i < line.len() {
+        let blank = is_blank(line[i]);
+        if !blank {
+            if apart {
+                count += 1;
+            }
         }
+        apart = blank;
+        i += 1;
     }
-    &s[..0]
+    count
 }

@@ -1,64 +1,55 @@
-use borrow.Author.Needs.{needs}
-use Prim.Native.Nat.{_+_, _-_, _≤_}
+use borrow.Author.Tests.{not-true, not-false}
+use Prim.Native.Nat.{_-_}
 use native.Mathlib.Omega.{arith}
 use lib.ListN.{length}
+use borrow.Author.Needs.{needs}
+use Rattle.script.proofs.WholeLaws.{Walking, walk-none, walk-wrong, walk-more, walk-unbegun, walk-due, walk-all}
 use Rattle.script.proofs.whole.wrong_line.Statement.{statement}
 use Rattle.script.proofs.whole.wrong_line.Tie as tie
 use Rattle.script.proofs.whole.wrong_line.Reads as reads
 use Rattle.script.proofs.whole.wrong_line.Lts as lts
-use Rattle.words.proofs.text.line_at.Reads as line-at-reads
-use Rattle.words.proofs.text.words_in.Reads as words-in-reads
 use Rattle.script.proofs.whole.after_line.Reads as after-line-reads
+use Rattle.words.proofs.text.line_at.Reads as line-at-reads
+use Rattle.words.proofs.text.next_line.Reads as next-line-reads
 
 abbrev Inv-loop : tie.InvT-loop
-Inv-loop s due₀ number₀ at₀ due number at = (at ≤ length s) × (number ≤ at + 1)
+Inv-loop s due₀ number₀ at₀ due number at = Walking s due number at
 
 abbrev μ-loop : tie.MeasureT-loop
 μ-loop s due₀ number₀ at₀ due number at = length s - at
 
--- src/whole.rt:118:5
 loop-holds : tie.Need-loop-holds Inv-loop μ-loop
-loop-holds c = search needs
+loop-holds c = walk-none _
 
--- src/whole.rt:119:13
 line-at-requires : tie.Need-line-at-requires Inv-loop μ-loop
 line-at-requires c κs = search needs
 
--- src/whole.rt:120:29
-words-in-requires : tie.Need-words-in-requires Inv-loop μ-loop
-words-in-requires c κs = search needs
-
--- src/whole.rt:120:9
 after-line-requires : tie.Need-after-line-requires Inv-loop μ-loop
 after-line-requires c κs = search needs
 
--- src/whole.rt:122:13
 returns : tie.Need-returns Inv-loop μ-loop
-returns c = search needs
+returns c = walk-wrong (c .before .before .before .before .before .loop .inv) (c .before .before .before .before .loop-test .taken) (c .before .before .before .line-at .ensures) (c .before .before .after-line .ensures) (not-true _ (c .if1 .taken))
 
--- src/whole.rt:125:9
+next-line-requires : tie.Need-next-line-requires Inv-loop μ-loop
+next-line-requires c κs = search needs
+
 add-number : tie.Need-add-number Inv-loop μ-loop
 add-number c = search needs
 
--- src/whole.rt:118:5
 loop-less : tie.Need-loop-less Inv-loop μ-loop
-loop-less c = omega (arith, c .before .before .before .before .line-at .ensures .on (search needs))
+loop-less c = omega (arith, c .next-line .ensures .1 .1 (c .before .before .before .before .before .loop-test .taken))
 
--- src/whole.rt:118:5
 loop-again : tie.Need-loop-again Inv-loop μ-loop
-loop-again c = omega (arith, c .before .before .before .before .line-at .ensures .on (search needs))
+loop-again c = walk-more (c .before .before .before .before .before .before .loop .inv) (c .before .before .before .before .before .loop-test .taken) (c .before .before .before .before .line-at .ensures) (c .before .before .before .after-line .ensures) (not-false _ (c .before .if1 .left)) (c .next-line .ensures .0) (c .next-line .ensures .1)
 
--- src/whole.rt:128:9
 returns-2 : tie.Need-returns-2 Inv-loop μ-loop
-returns-2 c = search needs
+returns-2 c = walk-unbegun (c .before .before .before .loop .inv) (c .before .before .loop-test .left) (not-true _ (c .if2 .taken))
 
--- src/whole.rt:131:9
 returns-3 : tie.Need-returns-3 Inv-loop μ-loop
-returns-3 c = search needs
+returns-3 c = walk-due (c .before .before .before .before .before .loop .inv) (c .before .before .before .before .loop-test .left) (not-false _ (c .before .before .if2 .left)) (c .if3 .taken)
 
--- src/whole.rt:110:1
 returns-4 : tie.Need-returns-4 Inv-loop μ-loop
-returns-4 c = search needs
+returns-4 c = walk-all (c .before .before .before .before .before .loop .inv) (c .before .before .before .before .loop-test .left) (not-false _ (c .before .before .if2 .left)) (c .if3 .left)
 
 pub wrong-line-spec : {M : Type 1} → statement M
 wrong-line-spec =
@@ -68,9 +59,9 @@ wrong-line-spec =
     μ-loop
     loop-holds
     line-at-requires
-    words-in-requires
     after-line-requires
     returns
+    next-line-requires
     add-number
     loop-less
     loop-again

@@ -6,7 +6,7 @@ use lib.ListN.{length}
 use Rattle.layout.proofs.FieldLaws.{passed, failed}
 use Rattle.puts.proofs.PutLaws.{Putting, putting-none, putting-more, putting-all, putAt-out}
 use Rattle.words.specs.Data.{dataOf}
-use Rattle.words.proofs.DataLaws.{data-length, data-at}
+use Rattle.words.proofs.DataLaws.{data-length, data-at, count-inside, count-outside}
 use Rattle.words.proofs.hex.put_data.Statement.{statement}
 use Rattle.words.proofs.hex.put_data.Tie as tie
 use Rattle.words.proofs.hex.put_data.Reads as reads
@@ -20,84 +20,65 @@ Inv-loop out₀ at word n j₀ out j = Putting out₀ at (dataOf word) n out j
 abbrev μ-loop : tie.MeasureT-loop
 μ-loop out₀ at word n j₀ out j = n - j
 
--- src/hex.rt:58:9
 inside-requires : tie.Need-inside-requires Inv-loop μ-loop
 inside-requires c κs = search needs
 
--- src/hex.rt:59:9
 returns : tie.Need-returns Inv-loop μ-loop
-returns c = putting-all (c .before .loop .inv) (search needs)
+returns c = (putting-all (c .before .loop .inv) (search needs), count-inside _ _ _ (passed (c .before .before .before .inside .ensures) (c .before .before .if1 .taken)))
 
--- src/hex.rt:62:5
 loop-holds : tie.Need-loop-holds Inv-loop μ-loop
 loop-holds c = putting-none (data-length _) (passed (c .before .inside .ensures) (c .if1 .taken))
 
--- src/hex.rt:63:39
 mul-digit : tie.Need-mul-digit Inv-loop μ-loop
 mul-digit c = search needs
 
--- src/hex.rt:63:34
 shared-slice-read-digit : tie.Need-shared-slice-read-digit Inv-loop μ-loop
 shared-slice-read-digit c = search needs
 
--- src/hex.rt:63:28
 digit-requires : tie.Need-digit-requires Inv-loop μ-loop
 digit-requires c κs = search needs
 
--- src/hex.rt:63:23
 mul-out : tie.Need-mul-out Inv-loop μ-loop
 mul-out c = search needs
 
--- src/hex.rt:63:60
 mul-digit-2 : tie.Need-mul-digit-2 Inv-loop μ-loop
 mul-digit-2 c = search needs
 
--- src/hex.rt:63:60
 add-digit : tie.Need-add-digit Inv-loop μ-loop
 add-digit c = search needs
 
--- src/hex.rt:63:55
 shared-slice-read-digit-2 : tie.Need-shared-slice-read-digit-2 Inv-loop μ-loop
 shared-slice-read-digit-2 c = search needs
 
--- src/hex.rt:63:49
 digit-requires-2 : tie.Need-digit-requires-2 Inv-loop μ-loop
 digit-requires-2 c κs = search needs
 
--- src/hex.rt:63:23
 add-out : tie.Need-add-out Inv-loop μ-loop
 add-out c = search needs
 
--- src/hex.rt:63:13
 add-out-2 : tie.Need-add-out-2 Inv-loop μ-loop
 add-out-2 c = search needs
 
--- src/hex.rt:63:9
 slice-write-out : tie.Need-slice-write-out Inv-loop μ-loop
 slice-write-out c = search needs
 
--- src/hex.rt:64:9
 add-j : tie.Need-add-j Inv-loop μ-loop
 add-j c = search needs
 
--- src/hex.rt:62:5
 loop-less : tie.Need-loop-less Inv-loop μ-loop
 loop-less c = search needs
 
--- src/hex.rt:62:5
 loop-again : tie.Need-loop-again Inv-loop μ-loop
 loop-again c = rw (c .before .before .digit .ensures .0, c .digit2 .ensures .0, data-at (c .before .before .before .before .before .before .before .before .before .before .args .word .now) (c .before .before .before .before .before .loop .j) (search needs)) (putting-more (c .before .before .before .before .before .loop .inv) (search needs))
 
--- src/hex.rt:54:1
 same-length : tie.Need-same-length Inv-loop μ-loop
 same-length c = search needs
 
--- src/hex.rt:54:1
 returns-2 : tie.Need-returns-2 Inv-loop μ-loop
 returns-2 c =
     let s = c .before .before .before .before .args in
     let h : length (s .out .now) < s .at + length (s .word .now) / 2 = failed (c .before .inside .ensures) (c .if1 .left) in
-    sym (putAt-out _ _ _ (omega (arith, data-length (s .word .now))))
+    (sym (putAt-out _ _ _ (omega (arith, data-length (s .word .now)))), count-outside _ _ _ h)
 
 pub put-data-spec : {M : Type 1} → statement M
 put-data-spec =

@@ -1,43 +1,38 @@
 use borrow.Author.Needs.{needs}
-use Prim.Native.Nat.{_-_, _≤_}
+use borrow.Author.Tests.{eq-eqb, ne-eqb}
+use Prim.Native.Nat.{_-_}
+use lib.Dec.{eqb}
+use lib.ListN.{length}
+use Rattle.words.proofs.TextLaws.{Scanning, scan-none, scan-found, scan-more, scan-all}
 use Rattle.words.proofs.text.find.Statement.{statement}
 use Rattle.words.proofs.text.find.Tie as tie
-use Rattle.words.proofs.text.find.Reads as reads
-use Rattle.words.proofs.text.find.Lts as lts
 
 abbrev Inv-loop : tie.InvT-loop
-Inv-loop s from to byte i₀ i = (from ≤ i) × (i ≤ to)
+Inv-loop s from byte i₀ i = Scanning (λ b. eqb b byte) s from i
 
 abbrev μ-loop : tie.MeasureT-loop
-μ-loop s from to byte i₀ i = to - i
+μ-loop s from byte i₀ i = length s - i
 
--- src/text.rt:28:5
 loop-holds : tie.Need-loop-holds Inv-loop μ-loop
-loop-holds c = search needs
+loop-holds c = scan-none _ _ _ (c .pre)
 
--- src/text.rt:29:12
 shared-slice-read-if1 : tie.Need-shared-slice-read-if1 Inv-loop μ-loop
 shared-slice-read-if1 c = search needs
 
--- src/text.rt:30:13
 returns : tie.Need-returns Inv-loop μ-loop
-returns c = search needs
+returns c = scan-found (c .before .before .before .loop .inv) (search needs) (eq-eqb _ _ (c .if1 .taken))
 
--- src/text.rt:32:9
 add-i : tie.Need-add-i Inv-loop μ-loop
 add-i c = search needs
 
--- src/text.rt:28:5
 loop-less : tie.Need-loop-less Inv-loop μ-loop
 loop-less c = search needs
 
--- src/text.rt:28:5
 loop-again : tie.Need-loop-again Inv-loop μ-loop
-loop-again c = search needs
+loop-again c = scan-more (c .before .before .before .loop .inv) (search needs) (ne-eqb _ _ (c .if1 .left))
 
--- src/text.rt:23:1
 returns-2 : tie.Need-returns-2 Inv-loop μ-loop
-returns-2 c = search needs
+returns-2 c = scan-all (c .before .loop .inv) (search needs)
 
 pub find-spec : {M : Type 1} → statement M
 find-spec =

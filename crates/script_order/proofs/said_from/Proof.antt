@@ -1,0 +1,60 @@
+use Prim.Native.Nat.{_-_}
+use native.Mathlib.Omega.{arith}
+use lib.ListN.{length}
+use borrow.Author.Needs.{needs}
+use Rattle.script_order.proofs.OrderLaws.{Seeking, seek-none, seek-found, seek-more, seek-end}
+use Rattle.script_order.proofs.said_from.Statement.{statement}
+use Rattle.script_order.proofs.said_from.Tie as tie
+
+abbrev Inv-loop : tie.InvT-loop
+Inv-loop s from at₀ at = Seeking s from at
+
+abbrev μ-loop : tie.MeasureT-loop
+μ-loop s from at₀ at = length s - at
+
+-- src/lib.rt:19:5
+loop-holds : tie.Need-loop-holds Inv-loop μ-loop
+loop-holds c = seek-none _ _
+
+-- src/lib.rt:20:23
+line-at-requires : tie.Need-line-at-requires Inv-loop μ-loop
+line-at-requires c κs = search needs
+
+-- src/lib.rt:20:12
+word-count-requires : tie.Need-word-count-requires Inv-loop μ-loop
+word-count-requires c κs = search needs
+
+-- src/lib.rt:21:13
+returns : tie.Need-returns Inv-loop μ-loop
+returns c = seek-found (c .before .before .before .before .loop .inv) (c .before .before .before .loop-test .taken) (c .before .before .line-at .ensures) (c .before .word-count .ensures) (c .if1 .taken)
+
+-- src/lib.rt:23:9
+next-line-requires : tie.Need-next-line-requires Inv-loop μ-loop
+next-line-requires c κs = search needs
+
+-- src/lib.rt:19:5
+loop-less : tie.Need-loop-less Inv-loop μ-loop
+loop-less c = omega (arith, c .next-line .ensures .1 .1 (c .before .before .before .before .loop-test .taken))
+
+-- src/lib.rt:19:5
+loop-again : tie.Need-loop-again Inv-loop μ-loop
+loop-again c = seek-more (c .before .before .before .before .before .loop .inv) (c .before .before .before .before .loop-test .taken) (c .before .before .before .line-at .ensures) (c .before .before .word-count .ensures) (c .before .if1 .left) (c .next-line .ensures .0)
+
+-- src/lib.rt:15:1
+returns-2 : tie.Need-returns-2 Inv-loop μ-loop
+returns-2 c = seek-end (c .before .loop .inv) (search needs)
+
+pub said-from-spec : {M : Type 1} → statement M
+said-from-spec =
+    tie.close
+    (tie.spec
+    Inv-loop
+    μ-loop
+    loop-holds
+    line-at-requires
+    word-count-requires
+    returns
+    next-line-requires
+    loop-less
+    loop-again
+    returns-2)

@@ -1,179 +1,181 @@
 // A script's lines one after the other.
-use crate::answered::Voice;
-use crate::answered::begin_refused;
-use crate::answered::tell_call;
-use io::large_buffer;
-use script::lines::Kind;
-use script::lines::kind_of;
-use script::lines::lent_line;
-use single_calls::made::Made;
-use single_calls::made::make;
-use single_calls::noted::Noted;
-use single_calls::noted::none;
-use single_calls::noted::note;
-use single_calls::pushing::Pushing;
-use single_calls::pushing::after_line;
-use single_calls::pushing::empty_push;
-use single_calls::pushing::makes_call;
-use single_calls::pushing::one_more;
-use stored::part;
-use tearing::least;
-use words::text::Words;
+use crate::made::make;
+use crate::told::Voice;
+use crate::told::tell_call;
+use crate::told::tell_line;
+use noted::Noted;
+use noted::none;
+use noted_calls::LENT;
+use noted_calls::Made;
+use noted_calls::begin_noted;
+use script::kinds::Kind;
+use script::kinds::kind_of;
+use script::lines::begin_line;
+use script_order::lent_after;
+use script_order::start_of;
 use words::text::line_at;
-use words::text::words_in;
+use words::text::next_line;
 use writer::HpsWriter;
-use writer::Looping;
-use writer::begin;
-ghost use Prim.Native.Nat.{_≤_, _<_};
-ghost use Rattle.single_calls.specs.Made.{After, Listed};
-ghost use Rattle.calls.specs.Underway.{Underway};
+use writer::Reply;
+ghost use mathlib.Core.Path.{_≡_};
+ghost use mathlib.Core.Bool.{true, false};
+ghost use mathlib.Core.List.{List, _++_};
+ghost use Prim.Native.Nat.{ℕ, _≤_, _<_};
+ghost use lib.ListN.{length, drop};
+ghost use Rattle.words.specs.Texts.{nextOf, linesOf};
+ghost use Rattle.writer.specs.Calls.{Good};
+ghost use Rattle.power_cut.specs.PowerCut.{writesOf};
+ghost use Rattle.noted.specs.Noted.{notedIn, Listed};
+ghost use Rattle.noted_calls.specs.NotedCalls.{Tally};
+ghost use Rattle.calls.specs.Script.{begunLength, callsIn};
+ghost use Rattle.calls.specs.Carried.{allOf, Underway, Follows, refusedReply, Loads};
 
-// A lent buffer of 65,536 bytes is long enough for any call: a longer block gets 24 first.
-pub const LENT: usize = 65536;
+// The longest script.
+pub const SCRIPT_LIMIT: usize = 1048576;
 
-// A loading under way: the record, whether begin was refused, how long the lent buffer is, how the next call is told, the push that is being read, and the writes.
+// Room for the bytes of all writes of a loading.
+pub const KEPT: usize = 65664;
+
+// A loading under way: the record, the writes, how long the lent buffer is, and the next call's number.
 pub struct Loading {
     pub writer: HpsWriter,
-    pub refused: bool,
+    pub noted: Noted,
     pub lent: usize,
-    pub voice: Voice,
-    pub pushing: Pushing,
+    pub call: u64,
+}
+
+// What a script leaves: whether begin was refused, and the writes.
+pub struct Loaded {
+    pub refused: bool,
     pub noted: Noted,
 }
 
-// How a call is told. Begin's refusal is told in every case: it is the whole answer then.
-fn told_as(v: Voice, refused: bool) -> Voice {
-    Voice {
-        say: v.say | refused,
-        ..v
-    }
-}
-
-fn next_call(v: Voice) -> Voice {
-    Voice {
-        call: one_more(v.call),
-        ..v
-    }
-}
-
-// What a call answers is told; the loading after it.
-fn after_call(st: Loading, kind: Kind, m: Made, noted: Noted) -> Loading
-    requires { ⌜ After m × Listed noted ⌝ }
-    ensures { λ q. ⌜ Underway q ⌝ }
+// The line that starts here.
+fn load_line(v: Voice, s: &[u8], at: usize, next: usize, st: Loading, kept: &mut [u8]) -> Loading
+    requires { ⌜ Underway st (now kept) × (length (now s) ≤ 1048576) ⌝ }
+    requires { ⌜ (at < length (now s)) × (drop next (now s) ≡ nextOf (drop at (now s))) ⌝ }
+    ensures { λ q. ⌜ Follows (now (s .entry)) at st (now (kept .entry)) q (now (kept .exit)) ⌝ }
 {
+    let line = line_at(s, at);
+    let kind = kind_of(line);
+    let writer = st.writer;
+    let before = st.noted;
+    let m = make(s, next, line, kind, writer, st.lent, before, kept);
     let writer = m.writer;
     let reply = m.reply;
-    let places = m.places;
-    let v = st.voice;
-    let refused = begin_refused(kind, reply);
-    tell_call(told_as(v, refused), kind, reply, places, m.many);
+    let noted = m.noted;
     Loading {
         writer,
-        refused,
-        voice: next_call(v),
         noted,
-        ..st
+        lent: lent_after(line, kind, st.lent),
+        call: tell_line(v, st.call, kind, reply, noted, before.count),
     }
 }
 
-// A call's writes are noted: their bytes are the first ones of the lent buffer.
-fn note_call(j: Noted, m: Made, lent: &[u8; LENT], kept: &mut [u8]) -> Noted
-    requires { ⌜ Listed j × After m ⌝ }
-    ensures { λ q. ⌜ Listed q ⌝ }
+// The lines from here on.
+fn load_lines(v: Voice, s: &[u8], from: usize, start: Loading, kept: &mut [u8]) -> Loading
+    requires { ⌜ Underway start (now kept) × (length (now s) ≤ 1048576) ⌝ }
+    ensures { λ q. ⌜ (notedIn (q .noted) (now (kept .exit)) ≡ allOf start (now (kept .entry)) (linesOf (drop from (now (s .entry))))) × Listed (q .noted) (now (kept .exit)) ⌝ }
 {
-    let places = m.places;
-    note(j, places, m.many, part(lent, 0, m.bytes), kept)
-}
-
-// A line's call, with the part of the lent buffer that it gets.
-fn make_line(s: &[u8], w: Words, kind: Kind, slot: usize, st: Loading, lent: &mut [u8]) -> Made
-    requires { ⌜ Underway st ⌝ }
-    ensures { λ q. ⌜ After q ⌝ }
-{
-    let n = least(st.lent, lent.len());
-    let writer = st.writer;
-    let p = st.pushing;
-    make(s, w, kind, slot, writer, p, &mut lent[..n])
-}
-
-fn call_line(s: &[u8], w: Words, kind: Kind, slot: usize, st: Loading, kept: &mut [u8]) -> Loading
-    requires { ⌜ Underway st ⌝ }
-    ensures { λ q. ⌜ Underway q ⌝ }
-{
-    let mut lent = large_buffer();
-    let m = make_line(s, w, kind, slot, st, &mut lent);
-    let before = st.noted;
-    let noted = note_call(before, m, &lent, kept);
-    after_call(st, kind, m, noted)
-}
-
-// The lent buffer's length after a line: LENT sets it.
-fn lent_after(s: &[u8], w: Words, kind: Kind, lent: usize) -> usize {
-    if let Kind::Lent = kind {
-        return lent_line(s, w).length as usize;
-    }
-    lent
-}
-
-// What a line says beside its call.
-fn read_line(s: &[u8], w: Words, kind: Kind, st: Loading) -> Loading
-    requires { ⌜ Underway st ⌝ }
-    ensures { λ q. ⌜ Underway q ⌝ }
-{
-    let before = st.pushing;
-    Loading {
-        lent: lent_after(s, w, kind, st.lent),
-        pushing: after_line(s, w, kind, before),
-        ..st
-    }
-}
-
-fn load_line(s: &[u8], w: Words, st: Loading, slot: usize, kept: &mut [u8]) -> Loading
-    requires { ⌜ Underway st ⌝ }
-    ensures { λ q. ⌜ Underway q ⌝ }
-{
-    let kind = kind_of(s, w);
-    let next = read_line(s, w, kind, st);
-    let p = next.pushing;
-    if makes_call(kind, p) {
-        return call_line(s, w, kind, slot, next, kept);
-    }
-    next
-}
-
-// No call made yet.
-fn unstarted(fd: i32, say: bool) -> Loading
-    ensures { λ q. ⌜ Underway q ⌝ }
-{
-    let mut lent = [0u8; 1];
-    let blank = begin(0, 0, Looping::Auto, &mut lent);
-    let writer = blank.writer;
-    let pushing = empty_push(0, false);
-    let noted = none();
-    Loading {
-        writer,
-        refused: false,
-        lent: LENT,
-        voice: Voice { fd, say, call: 0 },
-        pushing,
-        noted,
-    }
-}
-
-// The calls of a well-formed script from its start on, on a slot of this length; a refused begin ends it.
-pub fn load(fd: i32, s: &[u8], slot: usize, say: bool, kept: &mut [u8]) -> Loading
-    ensures { λ q. ⌜ Underway q ⌝ }
-{
-    let mut st = unstarted(fd, say);
-    let mut at: usize = 0;
+    let mut st = start;
+    let mut at = from;
     while at < s.len() {
-        let here = line_at(s, at);
-        let w = words_in(s, at, here.end);
-        st = load_line(s, w, st, slot, kept);
-        if st.refused {
-            return st;
-        }
-        at = here.next;
+        let next = next_line(s, at);
+        st = load_line(v, s, at, next, st, kept);
+        at = next;
     }
     st
+}
+
+// The length that begin is given. A slot that is too long to be listed gets 7, as from `key`.
+fn begun_length(n: usize) -> usize
+    ensures { λ r. ⌜ r ≡ begunLength n ⌝ }
+{
+    if n > 65536 {
+        return 16777217;
+    }
+    n
+}
+
+fn is_refused(reply: Reply) -> bool
+    ensures { λ r. ⌜ r ≡ refusedReply reply ⌝ }
+{
+    match reply {
+        Reply::Refused(_) => true,
+        Reply::Accepted(_) => false,
+    }
+}
+
+// No call made: what a script that is too long, or has no room for its writes, leaves.
+fn nothing() -> Loaded
+    ensures { λ q. ⌜ (q .refused ≡ true) × ((kept : List ℕ) → Listed (q .noted) kept) ⌝ }
+{
+    Loaded {
+        refused: true,
+        noted: none(),
+    }
+}
+
+// The calls after an accepted begin, of the lines from here on.
+fn load_rest(v: Voice, s: &[u8], from: usize, m: Made, lent: usize, kept: &mut [u8]) -> Loaded
+    requires { ⌜ Good (m .writer) × Tally (m .noted) (m .writer) (now kept) ⌝ }
+    requires { ⌜ length (now s) ≤ 1048576 ⌝ }
+    ensures { λ q. ⌜ notedIn (q .noted) (now (kept .exit)) ≡ notedIn (m .noted) (now (kept .entry)) ++ writesOf (m .writer) (callsIn lent (linesOf (drop from (now (s .entry))))) ⌝ }
+    ensures { λ q. ⌜ (q .refused ≡ false) × Listed (q .noted) (now (kept .exit)) ⌝ }
+{
+    let writer = m.writer;
+    let noted = m.noted;
+    let start = Loading {
+        writer,
+        noted,
+        lent,
+        call: 1,
+    };
+    let end = load_lines(v, s, from, start, kept);
+    let noted = end.noted;
+    Loaded {
+        refused: false,
+        noted,
+    }
+}
+
+// Tells begin's call: its refusal in every case, since it is the whole answer then.
+fn tell_begin(v: Voice, refused: bool, reply: Reply, noted: Noted) {
+    if v.say | refused {
+        tell_call(v.fd, 0, Kind::Begin, reply, noted, 0);
+    }
+}
+
+// The calls of a script that is not too long, with room for their writes.
+fn load_script(v: Voice, s: &[u8], slot: usize, kept: &mut [u8]) -> Loaded
+    requires { ⌜ (length (now s) ≤ 1048576) × (65664 ≤ length (now kept)) ⌝ }
+    ensures { λ q. ⌜ Loads slot (now (s .entry)) q (now (kept .exit)) × Listed (q .noted) (now (kept .exit)) ⌝ }
+{
+    let start = start_of(s, LENT);
+    let line = begin_line(line_at(s, start.at));
+    let mode = line.mode;
+    let m = begin_noted(begun_length(slot), line.channels, mode, start.lent, kept);
+    let reply = m.reply;
+    let noted = m.noted;
+    let refused = is_refused(reply);
+    tell_begin(v, refused, reply, noted);
+    if refused {
+        return nothing();
+    }
+    let next = next_line(s, start.at);
+    load_rest(v, s, next, m, start.lent, kept)
+}
+
+// The calls of a well-formed script on a slot of this length; a refused begin ends it.
+pub fn load(v: Voice, s: &[u8], slot: usize, kept: &mut [u8]) -> Loaded
+    ensures { λ q. ⌜ (length (now (s .entry)) ≤ 1048576 → 65664 ≤ length (now (kept .entry)) → Loads slot (now (s .entry)) q (now (kept .exit))) ⌝ }
+    ensures { λ q. ⌜ Listed (q .noted) (now (kept .exit)) ⌝ }
+{
+    if s.len() > SCRIPT_LIMIT {
+        return nothing();
+    }
+    if kept.len() < KEPT {
+        return nothing();
+    }
+    load_script(v, s, slot, kept)
 }

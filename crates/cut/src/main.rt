@@ -1,7 +1,6 @@
 // The marking key of every moment of a loading; `help` says how it is used.
 use cuts::Ask;
 use cuts::answer;
-use cuts::files::SCRIPT_LIMIT;
 use cuts::files::read_file;
 use cuts::files::script_room;
 use io::buffer;
@@ -40,10 +39,6 @@ fn moment() -> Number {
 
 // The answer on EARLIER. A slot that is too long is seen to be longer by its last byte.
 fn answer_script(text: &[u8], ask: Ask) {
-    if text.len() > SCRIPT_LIMIT {
-        tell(b"cut: SCRIPT is longer than 1,048,576 bytes\n");
-        return;
-    }
     let mut name = buffer();
     let k = os::arg(1, &mut name);
     let mut slot = slot_room();

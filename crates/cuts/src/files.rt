@@ -4,9 +4,6 @@ ghost use mathlib.Core.Path.{_≡_};
 ghost use lib.ListN.{length};
 ghost use Rattle.io.specs.Counts.{Counts};
 
-// The longest script.
-pub const SCRIPT_LIMIT: usize = 1048576;
-
 // A byte more than the longest script has, by which a longer one is seen.
 pub fn script_room() -> [u8; 1048577]
     ensures { λ r. ⌜ 1048577 ≡ length r ⌝ }

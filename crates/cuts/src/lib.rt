@@ -1,98 +1,33 @@
 // What `cut` answers: a script's calls on an earlier slot, and the listings of every moment.
-use calls::loading::Loading;
+use calls::loading::SCRIPT_LIMIT;
 use calls::loading::load;
-use io::large_buffer;
+use calls::told::Voice;
 use io::print_decimal;
 use io::write_all;
 use libc::STDERR_FILENO;
-use listing::listing::KEY_LIMIT;
+use noted::Noted;
 use printing::print_listing;
+use printing::slot_room;
 use puts::put_bytes;
 use script::whole::wrong_line;
-use single_calls::noted::Noted;
-use single_calls::telling::print_numbers;
 use tearing::slot_at;
+use telling::print_numbers;
 
 pub mod files; // files.rt: files by name
 pub mod times; // times.rt: the runs of moments with the same listing
 
-use times::print_times;
+use times::show_times;
 ghost use mathlib.Core.Path.{_≡_};
+ghost use Prim.Native.Nat.{_≤_};
 ghost use lib.ListN.{length};
-ghost use Rattle.calls.specs.Underway.{Underway};
-ghost use Rattle.single_calls.specs.Made.{Listed};
+ghost use Rattle.noted.specs.Noted.{notedIn};
+ghost use Rattle.calls.specs.Script.{scriptWrites};
+ghost use Rattle.cuts.specs.Moments.{slotOf};
 
 // What is asked: all, or the listing of one moment.
 pub enum Ask {
     All,
     Moment(u64),
-}
-
-fn is_all(ask: Ask) -> bool {
-    match ask {
-        Ask::All => true,
-        Ask::Moment(_) => false,
-    }
-}
-
-// The length that begin is given. A slot that is too long to be listed gets 7, as from `key`.
-fn begun_length(n: usize) -> usize {
-    if n > KEY_LIMIT {
-        return 16777217;
-    }
-    n
-}
-
-// The listing of one moment. The slot is the earlier one.
-fn print_moment(fd: i32, slot: &mut [u8], j: Noted, kept: &[u8], moment: u64) {
-    if moment > j.total as u64 {
-        write_all(STDERR_FILENO, b"cut: the last moment is ");
-        print_decimal(STDERR_FILENO, j.total as u64);
-        write_all(STDERR_FILENO, b"\n");
-        return;
-    }
-    let places = j.places;
-    slot_at(slot, places, j.count, kept, moment as usize);
-    print_listing(fd, slot);
-}
-
-fn answer_moment(fd: i32, earlier: &[u8], j: Noted, kept: &[u8], moment: u64) {
-    let n = earlier.len();
-    if n > KEY_LIMIT {
-        return;
-    }
-    let mut slot = large_buffer();
-    put_bytes(&mut slot, 0, earlier);
-    print_moment(fd, &mut slot[..n], j, kept, moment);
-}
-
-// The listings of every moment.
-fn answer_all(fd: i32, earlier: &[u8], j: Noted, kept: &[u8])
-    requires { ⌜ Listed j ⌝ }
-{
-    let n = earlier.len();
-    if n > KEY_LIMIT {
-        return;
-    }
-    let mut slot = large_buffer();
-    put_bytes(&mut slot, 0, earlier);
-    let mut first = large_buffer();
-    put_bytes(&mut first, 0, earlier);
-    print_times(fd, &mut slot[..n], &mut first[..n], j, kept);
-}
-
-// A refused begin's line is the whole answer.
-fn print_answer(fd: i32, earlier: &[u8], st: Loading, kept: &[u8], ask: Ask)
-    requires { ⌜ Underway st ⌝ }
-{
-    if st.refused {
-        return;
-    }
-    let j = st.noted;
-    match ask {
-        Ask::All => answer_all(fd, earlier, j, kept),
-        Ask::Moment(moment) => answer_moment(fd, earlier, j, kept, moment),
-    }
 }
 
 // Room for the bytes of all writes of a loading.
@@ -102,19 +37,94 @@ fn kept_room() -> [u8; 65664]
     [0; 65664]
 }
 
-// The answer on an earlier slot, loaded by a script that is well formed.
-fn answer_loading(fd: i32, earlier: &[u8], text: &[u8], ask: Ask) {
+// The listing of the slot at a moment.
+fn print_slot(fd: i32, earlier: &[u8], text: &[u8], moment: usize, slot: &[u8])
+    requires { ⌜ now slot ≡ slotOf (now earlier) (now text) moment ⌝ }
+{
+    print_listing(fd, slot);
+}
+
+fn tell_last(last: usize) {
+    write_all(STDERR_FILENO, b"cut: the last moment is ");
+    print_decimal(STDERR_FILENO, last as u64);
+    write_all(STDERR_FILENO, b"\n");
+}
+
+// The listing of one moment; the slot is a copy of the earlier one.
+fn show_moment(
+    fd: i32,
+    earlier: &[u8],
+    text: &[u8],
+    slot: &mut [u8],
+    j: Noted,
+    kept: &[u8],
+    moment: u64,
+)
+    requires { ⌜ (now slot ≡ now earlier) × (notedIn j (now kept) ≡ scriptWrites (length (now earlier)) (now text)) ⌝ }
+{
+    if moment > j.total as u64 {
+        tell_last(j.total);
+        return;
+    }
+    let places = j.places;
+    let m = moment as usize;
+    slot_at(slot, places, j.count, kept, m);
+    print_slot(fd, earlier, text, m, slot);
+}
+
+// One moment. A refused begin's line is the whole answer.
+fn answer_moment(fd: i32, earlier: &[u8], text: &[u8], moment: u64)
+    requires { ⌜ length (now text) ≤ 1048576 ⌝ }
+{
+    let n = earlier.len();
     let mut kept = kept_room();
-    let slot = begun_length(earlier.len());
-    let st = load(fd, text, slot, is_all(ask), &mut kept);
-    print_answer(fd, earlier, st, &kept, ask);
+    let loaded = load(Voice { fd, say: false }, text, n, &mut kept);
+    if loaded.refused {
+        return;
+    }
+    let mut slot = slot_room();
+    if n > slot.len() {
+        return;
+    }
+    put_bytes(&mut slot, 0, earlier);
+    let j = loaded.noted;
+    show_moment(fd, earlier, text, &mut slot[..n], j, &kept, moment);
+}
+
+// Every moment.
+fn answer_all(fd: i32, earlier: &[u8], text: &[u8])
+    requires { ⌜ length (now text) ≤ 1048576 ⌝ }
+{
+    let n = earlier.len();
+    let mut kept = kept_room();
+    let loaded = load(Voice { fd, say: true }, text, n, &mut kept);
+    if loaded.refused {
+        return;
+    }
+    let mut slot = slot_room();
+    if n > slot.len() {
+        return;
+    }
+    put_bytes(&mut slot, 0, earlier);
+    let j = loaded.noted;
+    show_times(fd, earlier, text, &mut slot[..n], j, &kept);
 }
 
 pub fn answer(fd: i32, earlier: &[u8], text: &[u8], ask: Ask) {
+    if text.len() > SCRIPT_LIMIT {
+        write_all(
+            STDERR_FILENO,
+            b"cut: SCRIPT is longer than 1,048,576 bytes\n",
+        );
+        return;
+    }
     let wrong = wrong_line(text);
     if wrong != 0 {
         print_numbers(fd, b"LINE", [wrong as u64, 0, 0], 1);
         return;
     }
-    answer_loading(fd, earlier, text, ask);
+    match ask {
+        Ask::All => answer_all(fd, earlier, text),
+        Ask::Moment(moment) => answer_moment(fd, earlier, text, moment),
+    }
 }

@@ -1,83 +1,88 @@
 // The runs of moments with the same listing.
+use noted::Noted;
 use printing::print_listing;
 use printing::same_listing;
+use printing::slot_room;
 use puts::put_bytes;
-use single_calls::noted::Noted;
-use single_calls::telling::print_numbers;
-use tearing::least;
-use tearing::reach_next;
-ghost use Rattle.single_calls.specs.Made.{Listed};
+use tearing::next_moment;
+use telling::print_numbers;
+ghost use mathlib.Core.Path.{_≡_};
+ghost use mathlib.Core.List.{List};
+ghost use Prim.Native.Nat.{ℕ, _≤_};
+ghost use lib.ListN.{length};
+ghost use Rattle.tearing.specs.Moments.{slotAt};
+ghost use Rattle.listing.specs.MarkingKey.{listing};
+ghost use Rattle.noted.specs.Noted.{notedIn, Listed};
+ghost use Rattle.calls.specs.Script.{scriptWrites};
+ghost use Rattle.cuts.specs.Moments.{Run, RunEnds};
 
-// The first moment of the run, and the moment that the slot is at.
-struct Run {
-    from: u64,
-    now: u64,
+// TIME with a run's first and last moment, and the listing.
+fn print_run(fd: i32, earlier: &[u8], text: &[u8], from: usize, last: usize, slot: &[u8])
+    requires { ⌜ Run (now earlier) (now text) from last (listing (now slot)) ⌝ }
+{
+    print_numbers(fd, b"TIME", [from as u64, last as u64, 0], 2);
+    print_listing(fd, slot);
 }
 
-fn print_run(fd: i32, run: Run, first: &[u8]) {
-    print_numbers(fd, b"TIME", [run.from, run.now, 0], 2);
-    print_listing(fd, first);
-}
-
-// One byte more of a write reaches the slot. The other buffer has the slot at the run's first moment.
-fn next_moment(
-    fd: i32,
-    slot: &mut [u8],
-    first: &mut [u8],
-    run: Run,
-    at: usize,
-    bytes: &[u8],
-    k: usize,
-) -> Run {
-    reach_next(slot, at, bytes, k);
-    let now = if run.now < 1048576 {
-        run.now + 1
-    } else {
-        run.now
-    };
-    if same_listing(first, slot) {
-        return Run {
-            from: run.from,
-            now,
-        };
-    }
-    print_run(fd, run, first);
-    put_bytes(first, 0, slot);
-    Run { from: now, now }
-}
-
-fn through_write(
-    fd: i32,
-    slot: &mut [u8],
-    first: &mut [u8],
-    from: Run,
-    at: usize,
-    bytes: &[u8],
-) -> Run {
-    let mut run = from;
-    let mut k: usize = 0;
-    while k < bytes.len() {
-        run = next_moment(fd, slot, first, run, at, bytes, k);
-        k += 1;
-    }
-    run
-}
-
-// Both buffers hold the earlier slot.
-pub(crate) fn print_times(fd: i32, slot: &mut [u8], first: &mut [u8], j: Noted, kept: &[u8])
-    requires { ⌜ Listed j ⌝ }
+// Where a run ends that starts at a moment; the other buffer has the slot at its start. The slot goes on to the moment after it.
+fn run_end(slot: &mut [u8], first: &[u8], j: Noted, kept: &[u8], from: usize) -> usize
+    requires { ⌜ Listed j (now kept) × (from ≤ j .total) ⌝ }
+    ensures { λ r. ⌜ ((s : List ℕ) → now (slot .entry) ≡ slotAt s (notedIn j (now (kept .entry))) from → now (first .entry) ≡ now (slot .entry) → RunEnds s (notedIn j (now (kept .entry))) from (j .total) (listing (now (first .entry))) r (now (slot .exit))) ⌝ }
 {
     let places = j.places;
     let count = j.count;
-    let mut run = Run { from: 0, now: 0 };
-    let mut at: usize = 0;
-    let mut i: usize = 0;
-    while i < count {
-        let place = places[i];
-        let end = at + least(place.length, kept.len() - at);
-        run = through_write(fd, slot, first, run, place.offset, &kept[at..end]);
-        at = end;
-        i += 1;
+    let total = j.total;
+    let mut m = from;
+    while m < total {
+        next_moment(slot, places, count, kept, m);
+        m += 1;
+        if !same_listing(first, slot) {
+            return m;
+        }
     }
-    print_run(fd, run, first);
+    total + 1
+}
+
+// Prints the runs; both buffers are copies of the earlier slot.
+fn show_runs(
+    fd: i32,
+    earlier: &[u8],
+    text: &[u8],
+    slot: &mut [u8],
+    first: &mut [u8],
+    j: Noted,
+    kept: &[u8],
+)
+    requires { ⌜ Listed j (now kept) × (notedIn j (now kept) ≡ scriptWrites (length (now earlier)) (now text)) ⌝ }
+    requires { ⌜ (now slot ≡ now earlier) × (now first ≡ now earlier) ⌝ }
+{
+    let total = j.total;
+    let mut from: usize = 0;
+    while from <= total {
+        let next = run_end(slot, first, j, kept, from);
+        print_run(fd, earlier, text, from, next - 1, first);
+        put_bytes(first, 0, slot);
+        from = next;
+    }
+}
+
+// The listings of every moment; the slot is a copy of the earlier one.
+pub(crate) fn show_times(
+    fd: i32,
+    earlier: &[u8],
+    text: &[u8],
+    slot: &mut [u8],
+    j: Noted,
+    kept: &[u8],
+)
+    requires { ⌜ Listed j (now kept) × (notedIn j (now kept) ≡ scriptWrites (length (now earlier)) (now text)) ⌝ }
+    requires { ⌜ now slot ≡ now earlier ⌝ }
+{
+    let n = earlier.len();
+    let mut first = slot_room();
+    if n > first.len() {
+        return;
+    }
+    put_bytes(&mut first, 0, earlier);
+    show_runs(fd, earlier, text, slot, &mut first[..n], j, kept);
 }

@@ -1,19 +1,17 @@
 -- The first bytes of a write, and of a list of writes.
 use Prim.Native.Nat.{ℕ, suc, _+_, _-_, _<_, _≤_, min}
 use mathlib.Core.Path.{_≡_, refl, ap, sym, _∙_}
-use mathlib.Core.Bool.{Bool, true, false}
-use mathlib.Core.List.{List, [], _∷_, _++_}
+use mathlib.Core.List.{List, [], _∷_}
 use native.Mathlib.Omega.{arith}
 use native.Mathlib.Numerals.{add-one}
 use lib.ListN.{length, take, drop, getD, set, length-take, length-drop, drop-of-length-le}
 use lib.Seq.{take-all, take-suc, length-take-le, drop-cons, drop-drop, getD-take}
 use lib.Dec.{leb}
 use borrow.Author.Tests.{le-leb, lt-leb, leb-true, leb-false}
-use Rattle.layout.specs.Choice.{pick}
 use Rattle.layout.specs.Lists.{put}
 use Rattle.layout.specs.Puts.{putAt}
 use Rattle.layout.proofs.Cases.{by-cases}
-use Rattle.puts.proofs.PutLaws.{put-length, put-one, putAt-in}
+use Rattle.puts.proofs.PutLaws.{put-length, put-none, put-one, putAt-in}
 use Rattle.writer.specs.WritesAndCuttingRule.{Write, write, writesIn}
 use Rattle.writer.specs.declared.Place.{Place}
 use Rattle.tearing.specs.Moments.{reached, slotAt}
@@ -123,3 +121,115 @@ module _ {start : List ℕ} {places : List Place} {count : ℕ} {bytes : List �
           long = ap length e ∙ reached-length slot (here .offset) part size ∙ c .long;
           is = next ∙ rw (part-length, le-leb size left h, add-one, ← e);
         }
+
+-- ---- One byte more of a list of writes
+
+-- At moment 0 nothing has reached the slot.
+none-reached : (s : List ℕ) (w : Write) → reached s w 0 ≡ s
+unfolding reached
+none-reached s w =
+    by-cases (leb (w .offset + length (w .bytes)) (length s)) (λ t. rw t (put-none s (w .offset))) (λ t. rw t)
+
+pub slot-start : (s : List ℕ) (ws : List Write) → slotAt s ws 0 ≡ s
+unfolding slotAt
+slot-start s [] = refl
+slot-start s (w ∷ ws) =
+    by-cases (leb (length (w .bytes)) 0)
+    (λ t.
+    let n : length (w .bytes) ≡ 0 = omega (arith, leb-true (length (w .bytes)) 0 t) in
+    rw (n, none-reached s w) (slot-start s ws))
+    (λ t. rw (t, none-reached s w))
+
+-- Of a list, i writes are passed by; what they leave is the slot of which so many bytes more of the others are this moment, and one more the next.
+pub record Passed (s : List ℕ) (places : List Place) (count : ℕ) (bytes : List ℕ) (moment i at left : ℕ) : Type 0 where
+  pub slot : List ℕ
+  pub here : slotAt s (writesIn (take count places) bytes) moment ≡ slotAt slot (writesIn (drop i (take count places)) (drop at bytes)) left
+  pub then : slotAt s (writesIn (take count places) bytes) (moment + 1) ≡ slotAt slot (writesIn (drop i (take count places)) (drop at bytes)) (left + 1)
+
+pub record Passing (places : List Place) (count : ℕ) (bytes : List ℕ) (moment i at left : ℕ) : Type 0 where
+  pub few : i ≤ count
+  pub room : count ≤ length places
+  pub inside : at ≤ length bytes
+  pub small : left ≤ moment
+  pub is : (s : List ℕ) → Passed s places count bytes moment i at left
+
+module _ {places : List Place} {count : ℕ} {bytes : List ℕ} {moment : ℕ} where
+  pub passing-none : count ≤ length places → Passing places count bytes moment 0 0 moment
+  passing-none h =
+      record {
+        few = omega arith;
+        room = h;
+        inside = omega arith;
+        small = omega arith;
+        is = λ s. record { slot = s; here = refl; then = refl };
+      }
+
+  module _ {i at left : ℕ} (c : Passing places count bytes moment i at left) where
+    pub passing-all : count ≤ i → {t : List ℕ} (s : List ℕ) → t ≡ slotAt s (writesIn (take count places) bytes) moment → t ≡ slotAt s (writesIn (take count places) bytes) (moment + 1)
+    unfolding writesIn slotAt
+    passing-all h s e =
+        let p = c .is s in
+        let d : drop i (take count places) ≡ [] = drop-of-length-le (take count places) {i = i} (omega (arith, length-take-le count places (c .room))) in
+        e ∙ rw d at (p .here) ∙ sym (rw d at (p .then))
+
+    module _ {size : ℕ} (d : Place) (l : i < count) (z : size ≡ min (getD places i d .length) (length bytes - at)) where
+      now-write : Write
+      now-write = write (getD places i d .offset) (take size (drop at bytes))
+
+      rest : List Write
+      rest = writesIn (drop (suc i) (take count places)) (drop (at + size) bytes)
+
+      lies : at + size ≤ length bytes
+      lies = omega (arith, z, c .inside)
+
+      its-length : length (now-write .bytes) ≡ size
+      unfolding now-write
+      its-length = length-take-le size (drop at bytes) (omega (arith, length-drop at bytes, lies))
+
+      opened : writesIn (drop i (take count places)) (drop at bytes) ≡ now-write ∷ rest
+      unfolding now-write rest writesIn
+      opened =
+          let h : i < length (take count places) = omega (arith, length-take-le count places (c .room)) in
+          let e : size ≡ min (getD places i d .length) (length (drop at bytes)) = omega (arith, z, length-drop at bytes) in
+          rw (drop-cons (take count places) i d h, getD-take count places i d l, ← same-take (getD places i d .length) (drop at bytes) e, ← same-drop (getD places i d .length) (drop at bytes) e, drop-drop)
+
+      -- The byte after the first `left` of a write is one more of it, or the last.
+      one-more : (s : List ℕ) → left < size → slotAt s (now-write ∷ rest) (left + 1) ≡ reached s now-write (left + 1)
+      unfolding slotAt
+      one-more s h =
+          by-cases (leb size (left + 1))
+          (λ t.
+          let k = leb-true size (left + 1) t in
+          let n : left + 1 ≡ size = omega arith in
+          let m : size - size ≡ 0 = omega arith in
+          rw (its-length, n, le-leb size size (omega arith), m) (slot-start (reached s now-write size) rest))
+          (λ t. rw (its-length, t))
+
+      pub passing-here : left < size → {t u : List ℕ} (s : List ℕ) (n : ℕ) → n ≡ size → ((x : List ℕ) → t ≡ reached x (write (getD places i d .offset) (take n (drop at bytes))) left → u ≡ reached x (write (getD places i d .offset) (take n (drop at bytes))) (left + 1))
+          → t ≡ slotAt s (writesIn (take count places) bytes) moment → u ≡ slotAt s (writesIn (take count places) bytes) (moment + 1)
+      unfolding slotAt now-write
+      passing-here h s n q f e =
+          let p = c .is s in
+          let a : slotAt (p .slot) (now-write ∷ rest) left ≡ reached (p .slot) now-write left = rw (its-length, lt-leb size left h) in
+          let x = p .here ∙ ap (λ (ws : List Write). slotAt (p .slot) ws left) opened ∙ a in
+          let y = p .then ∙ ap (λ (ws : List Write). slotAt (p .slot) ws (left + 1)) opened ∙ one-more (p .slot) h in
+          (rw q at f) (p .slot) (e ∙ x) ∙ sym y
+
+      pub passing-more : size ≤ left → Passing places count bytes moment (i + 1) (at + size) (left - size)
+      unfolding slotAt rest
+      passing-more h =
+          record {
+            few = omega arith;
+            room = c .room;
+            inside = lies;
+            small = omega (arith, c .small);
+            is = λ s.
+                let p = c .is s in
+                let m : left + 1 - size ≡ left - size + 1 = omega arith in
+                let n : i + 1 ≡ suc i = add-one i in
+                record {
+                  slot = reached (p .slot) now-write size;
+                  here = p .here ∙ rw opened (rw (its-length, le-leb size left h, n));
+                  then = p .then ∙ rw opened (rw (its-length, le-leb size (left + 1) (omega arith), m, n));
+                };
+          }

@@ -37,7 +37,7 @@ use Rattle.tearing.proofs.ByteLaws.{bytes-take, bytes-drop}
 abbrev Small : ℕ → Type 0
 Small x = x < 256
 
-all-append : {A : Type 0} {Q : A → Type 0} {xs ys : List A} → All Q xs → All Q ys → All Q (xs ++ ys)
+pub all-append : {A : Type 0} {Q : A → Type 0} {xs ys : List A} → All Q xs → All Q ys → All Q (xs ++ ys)
 all-append none b = b
 all-append (more q a) b = more q (all-append a b)
 

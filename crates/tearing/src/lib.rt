@@ -40,7 +40,7 @@ pub fn reach(slot: &mut [u8], at: usize, bytes: &[u8], n: usize)
 }
 
 // One byte more, where the first k have reached the slot.
-pub fn reach_next(slot: &mut [u8], at: usize, bytes: &[u8], k: usize)
+fn reach_next(slot: &mut [u8], at: usize, bytes: &[u8], k: usize)
     ensures { λ _. ⌜ ((s : List ℕ) → now (slot .entry) ≡ reached s (write at (now (bytes .entry))) k → now (slot .exit) ≡ reached s (write at (now (bytes .entry))) (k + 1)) ⌝ }
 {
     if inside(slot.len(), at, bytes.len()) {
@@ -79,4 +79,34 @@ pub fn slot_at(slot: &mut [u8], places: [Place; 516], count: usize, bytes: &[u8]
 {
     let most = least(count, MOST_WRITES);
     carry_first(slot, places, most, bytes, moment);
+}
+
+// One byte more of the first writes of a list.
+fn next_first(slot: &mut [u8], places: [Place; 516], count: usize, bytes: &[u8], moment: usize)
+    requires { ⌜ count ≤ 516 ⌝ }
+    ensures { λ _. ⌜ ((s : List ℕ) → now (slot .entry) ≡ slotAt s (writesIn (take count places) (now (bytes .entry))) moment → now (slot .exit) ≡ slotAt s (writesIn (take count places) (now (bytes .entry))) (moment + 1)) ⌝ }
+{
+    let mut i: usize = 0;
+    let mut at: usize = 0;
+    let mut left = moment;
+    while i < count {
+        let place = places[i];
+        let size = least(place.length, bytes.len() - at);
+        let end = at + size;
+        if left < size {
+            reach_next(slot, place.offset, &bytes[at..end], left);
+            return;
+        }
+        left -= size;
+        at = end;
+        i += 1;
+    }
+}
+
+// The slot at the moment after this one.
+pub fn next_moment(slot: &mut [u8], places: [Place; 516], count: usize, bytes: &[u8], moment: usize)
+    ensures { λ _. ⌜ ((s : List ℕ) → now (slot .entry) ≡ slotAt s (writesIn (take count places) (now (bytes .entry))) moment → now (slot .exit) ≡ slotAt s (writesIn (take count places) (now (bytes .entry))) (moment + 1)) ⌝ }
+{
+    let most = least(count, MOST_WRITES);
+    next_first(slot, places, most, bytes, moment);
 }

@@ -21,7 +21,7 @@ one-place : (n : ℕ) (w : HpsWriter) (lent : List ℕ) (next : HpsWriter) (m : 
 one-place n w lent next m x = by-cases (eqb n 0) (λ q. rw q) (λ q. rw q)
 
 module _ (n ch : ℕ) (m : Looping) (lent : List ℕ) where
-  begin-place : handedOut (called (beginOf n ch m lent)) ≡ beginOf n ch m lent .places
+  pub begin-place : handedOut (called (beginOf n ch m lent)) ≡ beginOf n ch m lent .places
   unfolding beginOf
   begin-place = one-place (beginRefusal n ch (length lent)) _ lent _ 0 (write 15 (0 ∷ []))
 
@@ -31,7 +31,7 @@ module _ (n ch : ℕ) (m : Looping) (lent : List ℕ) where
   begin-writes q l eq el = rw (eq, el, begin-place)
 
 module _ (w : HpsWriter) (p : Push) (lent : List ℕ) where
-  push-place : handedOut (called (pushOf w p lent)) ≡ pushOf w p lent .places
+  pub push-place : handedOut (called (pushOf w p lent)) ≡ pushOf w p lent .places
   unfolding pushOf
   push-place = one-place (pushRefusal (standingIn w) (takenOf w p) p (length lent)) _ lent _ 0 (write (w .offset) (pushBytes w p))
 

@@ -1,55 +1,75 @@
-use mathlib.Core.Path.{sym}
-use lib.Seq.{length-take-le}
 use borrow.Author.Needs.{needs}
+use native.Mathlib.Omega.{arith}
+use Rattle.cuts.proofs.RunLaws.{copy-first, copy-length}
 use Rattle.cuts.proofs.answer_moment.Statement.{statement}
 use Rattle.cuts.proofs.answer_moment.Tie as tie
-use Rattle.cuts.proofs.answer_moment.Reads as reads
-use Rattle.cuts.proofs.answer_moment.Lts as lts
-use Rattle.cuts.proofs.print_moment.Reads as print-moment-reads
-use Rattle.io.proofs.large_buffer.Reads as large-buffer-reads
-use Rattle.puts.proofs.put_bytes.Reads as put-bytes-reads
 
--- src/lib.rt:61:9
+-- src/lib.rt:80:20
+kept-room-requires : tie.Need-kept-room-requires
+kept-room-requires c κs = search needs
+
+-- src/lib.rt:81:58
+slice-aggregate-load : tie.Need-slice-aggregate-load
+slice-aggregate-load c = search needs
+
+-- src/lib.rt:81:9
+load-requires : tie.Need-load-requires
+load-requires c κs = search needs
+
+-- src/lib.rt:83:9
 returns : tie.Need-returns
 returns c = search needs
 
--- src/lib.rt:63:20
-large-buffer-requires : tie.Need-large-buffer-requires
-large-buffer-requires c κs = search needs
+-- src/lib.rt:85:20
+slot-room-requires : tie.Need-slot-room-requires
+slot-room-requires c κs = search needs
 
--- src/lib.rt:64:15
+-- src/lib.rt:87:9
+returns-2 : tie.Need-returns-2
+returns-2 c = search needs
+
+-- src/lib.rt:89:15
 slice-aggregate-put-bytes : tie.Need-slice-aggregate-put-bytes
 slice-aggregate-put-bytes c = search needs
 
--- src/lib.rt:64:5
+-- src/lib.rt:89:5
 put-bytes-requires : tie.Need-put-bytes-requires
 put-bytes-requires c κs = search needs
 
--- src/lib.rt:65:22
+-- src/lib.rt:91:36
 array-borrow-prefix-slot : tie.Need-array-borrow-prefix-slot
 array-borrow-prefix-slot c = search needs
 
--- src/lib.rt:65:22
-slice-aggregate-print-moment : tie.Need-slice-aggregate-print-moment
-slice-aggregate-print-moment c = sym (length-take-le _ _ (search needs))
+-- src/lib.rt:91:36
+slice-aggregate-show-moment : tie.Need-slice-aggregate-show-moment
+slice-aggregate-show-moment c = copy-length _ _ (search needs) (c .before .before .before .put-bytes .ensures)
 
--- src/lib.rt:65:5
-print-moment-requires : tie.Need-print-moment-requires
-print-moment-requires c κs = search needs
+-- src/lib.rt:91:55
+slice-aggregate-show-moment-2 : tie.Need-slice-aggregate-show-moment-2
+slice-aggregate-show-moment-2 c = search needs
 
--- src/lib.rt:58:1
-returns-2 : tie.Need-returns-2
-returns-2 c = search needs
+-- src/lib.rt:91:5
+show-moment-requires : tie.Need-show-moment-requires
+show-moment-requires c κs = (copy-first _ _ (search needs) (c .before .before .before .before .put-bytes .ensures), c .before .before .before .before .before .before .before .before .before .before .load .ensures .0 (c .before .before .before .before .before .before .before .before .before .before .before .before .before .before .before .pre) (omega (arith, c .before .before .before .before .before .before .before .before .before .before .before .before .kept-room .ensures)) .is (c .before .before .before .before .before .before .before .before .if1 .left))
+
+-- src/lib.rt:76:1
+returns-3 : tie.Need-returns-3
+returns-3 c = search needs
 
 pub answer-moment-spec : {M : Type 1} → statement M
 answer-moment-spec =
     tie.close
     (tie.spec
+    kept-room-requires
+    slice-aggregate-load
+    load-requires
     returns
-    large-buffer-requires
+    slot-room-requires
+    returns-2
     slice-aggregate-put-bytes
     put-bytes-requires
     array-borrow-prefix-slot
-    slice-aggregate-print-moment
-    print-moment-requires
-    returns-2)
+    slice-aggregate-show-moment
+    slice-aggregate-show-moment-2
+    show-moment-requires
+    returns-3)

@@ -1,0 +1,55 @@
+-- A script's calls carried out one after the other.
+use Prim.Native.Nat.{ℕ}
+use mathlib.Core.Path.{_≡_}
+use mathlib.Core.Bool.{Bool, true, false}
+use mathlib.Core.List.{List, _++_}
+use lib.ListN.{drop}
+use Rattle.words.specs.Texts.{nextOf, linesOf}
+use Rattle.writer.specs.WritesAndCuttingRule.{Write}
+use Rattle.writer.specs.Loading.{Call, Answer, refused, accepted}
+use Rattle.writer.specs.Calls.{Good}
+use Rattle.writer.specs.declared.HpsWriter.{HpsWriter}
+use Rattle.writer.specs.declared.Reply.{Reply}
+use Rattle.writer.specs.declared.Reply.the-variants.{Refused, Accepted}
+use Rattle.power_cut.specs.PowerCut.{writesOf}
+use Rattle.noted.specs.Noted.{notedIn}
+use Rattle.noted.specs.declared.Noted.{Noted}
+use Rattle.noted_calls.specs.NotedCalls.{Tally}
+use Rattle.noted_calls.specs.declared.Made.{Made}
+use Rattle.calls.specs.Script.{callsIn, begins, scriptWrites}
+use Rattle.calls.specs.declared.loading.Loading.{Loading}
+use Rattle.calls.specs.declared.loading.Loaded.{Loaded}
+
+-- After these calls: what is noted, and what the calls after them will hand out, is what was to come before them.
+pub record Makes (calls : List Call) (w : HpsWriter) (j : Noted) (kept : List ℕ) (m : Made) (after : List ℕ) : Type 0 where
+  pub good : Good (m .writer)
+  pub tally : Tally (m .noted) (m .writer) after
+  pub is : (later : List Call) → notedIn (m .noted) after ++ writesOf (m .writer) later ≡ notedIn j kept ++ writesOf w (calls ++ later)
+
+-- The writes noted, and those of the lines to come.
+unfoldable pub allOf : Loading → (kept : List ℕ) → (lines : List (List ℕ)) → List Write
+allOf st kept ls = notedIn (st .noted) kept ++ writesOf (st .writer) (callsIn (st .lent) ls)
+
+-- What holds of every loading under way.
+pub record Underway (st : Loading) (kept : List ℕ) : Type 0 where
+  pub good : Good (st .writer)
+  pub tally : Tally (st .noted) (st .writer) kept
+
+-- A line's calls are carried out.
+pub record Follows (s : List ℕ) (at : ℕ) (st : Loading) (kept : List ℕ) (q : Loading) (after : List ℕ) : Type 0 where
+  pub underway : Underway q after
+  pub is : allOf q after (linesOf (nextOf (drop at s))) ≡ allOf st kept (linesOf (drop at s))
+
+-- Is an answer a refusal?
+abbrev pub isRefused : Answer → Bool
+isRefused (refused n) = true
+isRefused (accepted n) = false
+
+abbrev pub refusedReply : Reply → Bool
+refusedReply (Refused n) = true
+refusedReply (Accepted n) = false
+
+-- A script is carried out: "If begin is refused, its STOP line is the whole answer"; else all its writes are noted.
+pub record Loads (slot : ℕ) (s : List ℕ) (q : Loaded) (after : List ℕ) : Type 0 where
+  pub refused : q .refused ≡ isRefused (begins slot s .answer)
+  pub is : q .refused ≡ false → notedIn (q .noted) after ≡ scriptWrites slot s

@@ -1,0 +1,59 @@
+-- The calls that a well-formed script makes, and the writes that they hand out.
+use Prim.Native.Nat.{ℕ}
+use mathlib.Core.List.{List, [], _∷_, _++_}
+use lib.ListN.{getD}
+use lib.Dec.{ltb}
+use Rattle.layout.specs.Choice.{pick, _or_}
+use Rattle.words.specs.Texts.{linesOf}
+use Rattle.script.specs.Lines.{isKind, kindOf, beginLine, cueLine, pushLine, sideOf}
+use Rattle.script.specs.declared.kinds.Kind.{Kind}
+use Rattle.script.specs.declared.kinds.Kind.the-variants as Kinds
+use Rattle.script.specs.declared.lines.PushLine.{PushLine}
+use Rattle.script_order.specs.Order.{sidesIn, lentBy, Opening, openingFrom}
+use Rattle.writer.specs.WritesAndCuttingRule.{Write}
+use Rattle.writer.specs.Loading.{Push, Call, cue, push, finish}
+use Rattle.writer.specs.Calls.{Outcome}
+use Rattle.power_cut.specs.PowerCut.{begin, allWrites}
+use Rattle.noted_calls.specs.NotedCalls.{longLent, lentOf}
+
+-- A push by what PUSH says and its two CHAN lines; an empty line says zeros and no data.
+unfoldable pub pushWith : PushLine → (left right : List ℕ) → Push
+pushWith p l r = record { channels = p .channels; left = sideOf l; right = sideOf r; last = p .last }
+
+-- "`PUSH channels last` followed by a line `CHAN ..` for each of its channels": PUSH, and the lines after it
+unfoldable pub pushBy : List ℕ → (after : List (List ℕ)) → Push
+pushBy l ls =
+    pushWith (pushLine l) (getD (sidesIn (pushLine l .channels) ls) 0 []) (getD (sidesIn (pushLine l .channels) ls) 1 [])
+
+-- "one call a line": the call of a line of this kind, where the lent buffer is so long. BEGN's is not one of these, and CHAN's is its PUSH's.
+unfoldable pub callBy : Kind → List ℕ → (lent : ℕ) → (after : List (List ℕ)) → List Call
+callBy k l n ls =
+    pick (isKind k Kinds.Push) (push (pushBy l ls) (lentOf n) ∷ [])
+    (pick (isKind k Kinds.Finish) (finish (lentOf n) ∷ [])
+    (pick (isKind k Kinds.Point or isKind k Kinds.Loop or isKind k Kinds.Range) (cue (cueLine l k .cue) ∷ []) []))
+
+-- The calls of these lines, the lent buffer being so long before them.
+unfoldable pub callsIn : (lent : ℕ) → List (List ℕ) → List Call
+callsIn n [] = []
+callsIn n (l ∷ ls) = callBy (kindOf l) l n ls ++ callsIn (lentBy (kindOf l) l n) ls
+
+-- BEGN's line in a script.
+abbrev pub openingOf : List ℕ → Opening
+openingOf s = openingFrom longLent (linesOf s)
+
+-- "the slot length is EARLIER's"; a slot that is too long to be listed gets 7, as from `key`
+abbrev pub begunLength : ℕ → ℕ
+begunLength n = pick (ltb 65536 n) 16777217 n
+
+-- The script's begin on a slot of this length.
+unfoldable pub begins : (slot : ℕ) → (script : List ℕ) → Outcome
+begins n s =
+    begin (begunLength n) (beginLine (openingOf s .line) .channels) (beginLine (openingOf s .line) .mode) (lentOf (openingOf s .lent))
+
+-- Its calls after begin.
+unfoldable pub callsOf : (script : List ℕ) → List Call
+callsOf s = callsIn (openingOf s .lent) (openingOf s .rest)
+
+-- All its writes.
+unfoldable pub scriptWrites : (slot : ℕ) → (script : List ℕ) → List Write
+scriptWrites n s = allWrites (begins n s) (callsOf s)

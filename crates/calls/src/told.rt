@@ -1,0 +1,86 @@
+// What is told of a call.
+use noted::Noted;
+use script::kinds::Kind;
+use telling::print_numbers;
+use writer::Place;
+use writer::Reply;
+
+// Where calls are told, and whether they are.
+pub struct Voice {
+    pub fd: i32,
+    pub say: bool,
+}
+
+// DONE and the call's number, of finish the length too; or STOP, the number and the refusal.
+fn tell_reply(fd: i32, call: u64, reply: Reply, count: usize) {
+    match reply {
+        Reply::Refused(number) => print_numbers(fd, b"STOP", [call, number as u64, 0], 2),
+        Reply::Accepted(length) => print_numbers(fd, b"DONE", [call, length as u64, 0], count),
+    }
+}
+
+fn tell_write(fd: i32, call: u64, place: Place) {
+    print_numbers(
+        fd,
+        b"WRIT",
+        [call, place.offset as u64, place.length as u64],
+        3,
+    );
+}
+
+// The writes noted from here on.
+fn tell_writes(fd: i32, call: u64, noted: Noted, from: usize) {
+    let places = noted.places;
+    let mut i = from;
+    while i < noted.count {
+        if i < 516 {
+            let place = places[i];
+            tell_write(fd, call, place);
+        }
+        i += 1;
+    }
+}
+
+// How many numbers a call's DONE has: finish's has the length too.
+fn numbers_of(kind: Kind) -> usize {
+    if let Kind::Finish = kind {
+        return 2;
+    }
+    1
+}
+
+// Tells a call: its reply, and the writes that are noted from its first on.
+pub(crate) fn tell_call(fd: i32, call: u64, kind: Kind, reply: Reply, noted: Noted, from: usize) {
+    tell_reply(fd, call, reply, numbers_of(kind));
+    tell_writes(fd, call, noted, from);
+}
+
+// Whether a line makes a call: CHAN's is made at its PUSH.
+fn makes_call(kind: Kind) -> bool {
+    match kind {
+        Kind::Nothing | Kind::Channel | Kind::Lent | Kind::Unknown => false,
+        _ => true,
+    }
+}
+
+fn one_more(n: u64) -> u64 {
+    if n < 18446744073709551615 { n + 1 } else { n }
+}
+
+// Tells a line's call, if it makes one and calls are told; the next call's number.
+pub(crate) fn tell_line(
+    v: Voice,
+    call: u64,
+    kind: Kind,
+    reply: Reply,
+    noted: Noted,
+    from: usize,
+) -> u64 {
+    if !makes_call(kind) {
+        return call;
+    }
+    if v.say {
+        tell_call(v.fd, call, kind, reply, noted, from);
+    }
+    one_more(call)
+}

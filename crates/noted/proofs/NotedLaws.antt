@@ -1,0 +1,190 @@
+-- Writes noted one after the other.
+use Prim.Native.Nat.{ℕ, _+_, _-_, _<_, _≤_}
+use mathlib.Core.Path.{_≡_, refl, ap, sym, _∙_}
+use mathlib.Core.Bool.{Bool, false}
+use mathlib.Core.List.{List, [], _∷_, _++_, append-assoc, append-nil}
+use native.Mathlib.Omega.{arith}
+use native.Mathlib.Numerals.{add-one}
+use lib.ListN.{length, take, drop, set, length-append, length-drop, length-set, length-replicate, take-append-drop}
+use lib.Seq.{take-suc-set, length-take-le, take-append-le, drop-append-le, take-at, drop-at, drop-drop}
+use lib.Dec.{leb}
+use Rattle.layout.specs.Lists.{sum, put}
+use Rattle.layout.specs.Puts.{putAt}
+use Rattle.layout.proofs.FieldLaws.{failed}
+use Rattle.puts.proofs.PutLaws.{putAt-in, putAt-length}
+use Rattle.writer.specs.WritesAndCuttingRule.{Write, write, writesIn}
+use Rattle.writer.specs.Calls.{noPlace, whereAccepted}
+use Rattle.writer.specs.declared.Reply.{Reply}
+use Rattle.writer.specs.declared.Reply.the-variants.{Refused, Accepted}
+use Rattle.writer.specs.declared.Place.{Place}
+use Rattle.noted.specs.Noted.{noneNoted, notedIn, sizes, Listed, Room, Notes}
+use Rattle.noted.specs.declared.Noted.{Noted}
+
+-- A test of the room that fails.
+pub no-room : {t : Bool} {m n : ℕ} → t ≡ leb m n → t ≡ false → m ≤ n → ⊥
+no-room {t} {m} {n} e f h = let l : n < m = failed e f in omega arith
+
+-- ---- Lists of writes
+
+-- Writes more have the bytes after those of the others.
+writes-join : (ps qs : List Place) (buf : List ℕ) → writesIn (ps ++ qs) buf ≡ writesIn ps buf ++ writesIn qs (drop (sizes ps) buf)
+unfolding writesIn sizes sum
+writes-join [] qs buf = refl
+writes-join (p ∷ ps) qs buf = ap (λ (ws : List Write). write (p .offset) (take (p .length) buf) ∷ ws) (writes-join ps qs (drop (p .length) buf) ∙ rw drop-drop)
+
+sizes-join : (ps qs : List Place) → sizes (ps ++ qs) ≡ sizes ps + sizes qs
+unfolding sizes sum
+sizes-join [] qs = omega arith
+sizes-join (p ∷ ps) qs = omega (arith, sizes-join ps qs)
+
+-- Only the bytes of the writes count.
+writes-front : (ps : List Place) (xs ys : List ℕ) → sizes ps ≤ length xs → writesIn ps (xs ++ ys) ≡ writesIn ps xs
+unfolding writesIn sizes sum
+writes-front [] xs ys h = refl
+writes-front (p ∷ ps) xs ys h =
+    let few : p .length ≤ length xs = omega arith in
+    rw (take-append-le (p .length) xs ys few, drop-append-le (p .length) xs ys few, writes-front ps (drop (p .length) xs) ys (omega (arith, length-drop (p .length) xs)))
+
+-- ---- A write more
+
+pub none-listed : (kept : List ℕ) → Listed noneNoted kept
+unfolding sizes sum
+none-listed kept = record { few = omega arith; room = length-replicate 516 noPlace; bytes = refl; inside = omega arith }
+
+module _ {j : Noted} {kept : List ℕ} (l : Listed j kept) (p : Place) (bs : List ℕ) (few : j .count < 516) (size : length bs ≡ p .length) (room : j .total + p .length ≤ length kept) where
+  former : List Place
+  former = take (j .count) (j .places)
+
+  after : List ℕ
+  after = put kept (j .total) bs
+
+  fore : List ℕ
+  fore = take (j .total) kept
+
+  fore-length : length fore ≡ j .total
+  unfolding fore
+  fore-length = length-take-le (j .total) kept (l .inside)
+
+  with-it : take (j .count + 1) (set (j .places) (j .count) p) ≡ former ++ (p ∷ [])
+  unfolding former
+  with-it = let r = l .room in rw add-one (take-suc-set (j .places) (j .count) p (omega arith))
+
+  kept-front : writesIn former after ≡ writesIn former kept
+  unfolding former after fore
+  kept-front =
+      let s : sizes former ≤ length fore = omega (arith, l .bytes, fore-length) in
+      rw append-assoc
+      (writes-front former fore (bs ++ drop (j .total + length bs) kept) s ∙ sym (writes-front former fore (drop (j .total) kept) s) ∙ rw (take-append-drop (j .total) kept))
+
+  its-bytes : take (p .length) (drop (j .total) after) ≡ bs
+  unfolding after fore
+  its-bytes =
+      rw (append-assoc, drop-at fore (bs ++ drop (j .total + length bs) kept) (j .total) fore-length)
+      (take-at bs (drop (j .total + length bs) kept) (p .length) size)
+
+  pub listed-one : {b : List ℕ} → b ≡ putAt kept (j .total) bs → Listed (record { count = j .count + 1; total = j .total + p .length; places = set (j .places) (j .count) p }) b
+  unfolding former sizes sum
+  listed-one {b} e =
+      let n : length b ≡ length kept = ap length e ∙ putAt-length kept (j .total) bs in
+      record {
+        few = omega arith;
+        room = length-set (j .places) (j .count) p ∙ l .room;
+        bytes = rw with-it (omega (arith, sizes-join former (p ∷ []), l .bytes));
+        inside = omega arith;
+      }
+
+  pub notes-one : {b lent : List ℕ} → b ≡ putAt kept (j .total) bs → take (p .length) lent ≡ bs
+      → Notes j kept lent (p ∷ []) (record { count = j .count + 1; total = j .total + p .length; places = set (j .places) (j .count) p }) b
+  unfolding notedIn former after sizes sum writesIn
+  notes-one {b} {lent} e f =
+      let i : b ≡ after = e ∙ putAt-in kept (j .total) bs (omega arith) in
+      record {
+        count = refl;
+        total = omega arith;
+        long = ap length e ∙ putAt-length kept (j .total) bs;
+        listed = listed-one e;
+        is = rw (with-it, i, writes-join former (p ∷ []) after, ← l .bytes, its-bytes, kept-front, f);
+      }
+
+-- The bytes of a lent buffer from a place on.
+module _ {j : Noted} {kept : List ℕ} (l : Listed j kept) (p : Place) (lent : List ℕ) (from : ℕ) {b : List ℕ} (few : j .count < 516) (here : from + p .length ≤ length lent) (room : j .total + p .length ≤ length kept) (e : b ≡ putAt kept (j .total) (take (from + p .length - from) (drop from lent))) where
+  part-length : length (take (p .length) (drop from lent)) ≡ p .length
+  part-length = length-take-le (p .length) (drop from lent) (omega (arith, length-drop from lent))
+
+  is-part : b ≡ putAt kept (j .total) (take (p .length) (drop from lent))
+  is-part = let n : from + p .length - from ≡ p .length = omega arith in e ∙ rw n
+
+  pub listed-part : Listed (record { count = j .count + 1; total = j .total + p .length; places = set (j .places) (j .count) p }) b
+  listed-part = listed-one l p (take (p .length) (drop from lent)) few part-length room is-part
+
+  pub notes-part : Notes j kept (drop from lent) (p ∷ []) (record { count = j .count + 1; total = j .total + p .length; places = set (j .places) (j .count) p }) b
+  notes-part = notes-one l p (take (p .length) (drop from lent)) few part-length room is-part refl
+
+pub room-kept : {j : Noted} {kept lent : List ℕ} {p : Place} → Room j kept lent (p ∷ []) → j .total + p .length ≤ length kept
+unfolding sizes sum
+room-kept r = let h = r .space in omega arith
+
+pub room-lent : {j : Noted} {kept : List ℕ} (lent : List ℕ) {p : Place} (from : ℕ) → from ≤ length lent → Room j kept (drop from lent) (p ∷ []) → from + p .length ≤ length lent
+unfolding sizes sum
+room-lent lent from here r = let h = r .handed in omega (arith, length-drop from lent)
+
+-- ---- One after the other
+
+module _ {j : Noted} {kept lent : List ℕ} where
+  pub notes-none : Listed j kept → Notes j kept lent [] j kept
+  unfolding sizes sum writesIn
+  notes-none l = record { count = omega arith; total = omega arith; long = refl; listed = l; is = sym (append-nil _) }
+
+  pub notes-then : {ps qs : List Place} {q r : Noted} {k₁ k₂ : List ℕ} {n : ℕ} → n ≡ sizes ps → Notes j kept lent ps q k₁ → Notes q k₁ (drop n lent) qs r k₂ → Notes j kept lent (ps ++ qs) r k₂
+  notes-then {ps} {qs} e a b =
+      record {
+        count = omega (arith, a .count, b .count, length-append ps qs);
+        total = omega (arith, a .total, b .total, sizes-join ps qs);
+        long = b .long ∙ a .long;
+        listed = b .listed;
+        is = b .is ∙ rw (a .is, e, writes-join ps qs lent, append-assoc);
+      }
+
+  -- What is room for the second is room after the first.
+  pub room-first : {ps : List Place} (qs : List Place) → Room j kept lent (ps ++ qs) → Room j kept lent ps
+  room-first {ps} qs r = let n = length-append ps qs in let m = sizes-join ps qs in record { few = omega (arith, r .few); handed = omega (arith, r .handed); space = omega (arith, r .space) }
+
+  pub room-then : {ps : List Place} (qs : List Place) {q : Noted} {k : List ℕ} {n : ℕ} → n ≡ sizes ps → Notes j kept lent ps q k → Room j kept lent (ps ++ qs) → Room q k (drop n lent) qs
+  room-then {ps} qs {n = n} e a r =
+      let i = length-append ps qs in
+      let m = sizes-join ps qs in
+      record { few = omega (arith, r .few, a .count); handed = omega (arith, r .handed, length-drop n lent); space = omega (arith, r .space, a .total, a .long) }
+
+-- ---- Three writes
+
+-- What noting one write gives.
+abbrev One : (j : Noted) (kept lent : List ℕ) (from : ℕ) (p : Place) (q : Noted) (after : List ℕ) → Type 0
+One j kept lent from p q after = from ≤ length lent → Room j kept (drop from lent) (p ∷ []) → Notes j kept (drop from lent) (p ∷ []) q after
+
+module _ {j : Noted} {kept lent : List ℕ} {p q s : Place} (r : Room j kept lent (p ∷ q ∷ s ∷ [])) where
+  pub two-handed : p .length + q .length ≤ length lent
+  unfolding sizes sum
+  two-handed = let h = r .handed in omega arith
+
+  pub notes-three : {q₁ q₂ q₃ : Noted} {k₁ k₂ k₃ : List ℕ} → One j kept lent 0 p q₁ k₁ → One q₁ k₁ lent (p .length) q q₂ k₂ → One q₂ k₂ lent (p .length + q .length) s q₃ k₃
+      → Notes j kept lent (p ∷ q ∷ s ∷ []) q₃ k₃
+  unfolding sizes sum
+  notes-three f₁ f₂ f₃ =
+      let few = two-handed in
+      let n : p .length ≡ sizes (p ∷ []) = omega arith in
+      let m : q .length ≡ sizes (q ∷ []) = omega arith in
+      let a = f₁ (omega arith) (room-first (q ∷ s ∷ []) r) in
+      let r₁ = room-then (q ∷ s ∷ []) n a r in
+      let b = f₂ (omega arith) (room-first (s ∷ []) r₁) in
+      let c = f₃ few (rw drop-drop at (room-then (s ∷ []) m b r₁)) in
+      notes-then n a (notes-then m b (rw drop-drop c))
+
+-- ---- A refused call's writes
+
+module _ {j : Noted} {kept lent : List ℕ} {reply : Reply} {n : ℕ} (ps : List Place) where
+  pub none-refused : reply ≡ Refused n → Listed j kept → Notes j kept lent (whereAccepted reply ps) j kept
+  none-refused e l = rw e (notes-none l)
+
+  pub all-accepted : {q : Noted} {after : List ℕ} → reply ≡ Accepted n → (Room j kept lent ps → Notes j kept lent ps q after)
+      → Room j kept lent (whereAccepted reply ps) → Notes j kept lent (whereAccepted reply ps) q after
+  all-accepted e h r = rw e (h (rw e at r))

@@ -1,0 +1,32 @@
+use borrow.Author.Needs.{needs}
+use Rattle.noted.proofs.NotedLaws.{none-refused, all-accepted}
+use Rattle.noted.proofs.note_three.Statement.{statement}
+use Rattle.noted.proofs.note_three.Tie as tie
+
+-- src/lib.rt:94:30
+enum-told : tie.Need-enum-told
+enum-told c = search needs
+
+-- src/lib.rt:95:57
+enum-told-2 : tie.Need-enum-told-2
+enum-told-2 c = search needs
+
+-- src/lib.rt:95:31
+note-all-requires : tie.Need-note-all-requires
+note-all-requires c κs = search needs
+
+-- src/lib.rt:89:1
+returns : tie.Need-returns
+returns c = λ r. none-refused _ (c .enum-told .given .1) (c .before .before .before .before .pre)
+
+-- src/lib.rt:89:1
+same-length : tie.Need-same-length
+same-length c = search needs
+
+-- src/lib.rt:89:1
+returns-2 : tie.Need-returns-2
+returns-2 c = all-accepted _ (c .before .before .before .before .enum-told2 .given .1) (c .before .before .note-all .ensures)
+
+pub note-three-spec : {M : Type 1} → statement M
+note-three-spec =
+    tie.close (tie.spec enum-told enum-told-2 note-all-requires returns same-length returns-2)

@@ -1,0 +1,245 @@
+-- Each call's writes find room.
+use Prim.Native.Nat.{ℕ, zero, suc, _+_, _≤_, min}
+use mathlib.Core.Path.{_≡_, refl, ap, sym, _∙_}
+use mathlib.Core.Bool.{true, false}
+use mathlib.Core.List.{List, [], _∷_, _++_, map}
+use native.Mathlib.Omega.{arith}
+use lib.ListN.{length, take, drop, getD, replicate, length-append, length-take, length-map, length-replicate}
+use lib.Dec.{eqb}
+use borrow.Author.Tests.{ltb-false, leb-false, eqb-true}
+use Rattle.layout.specs.Lists.{sum}
+use Rattle.layout.proofs.Cases.{by-cases, apart}
+use Rattle.writer.specs.WritesAndCuttingRule.{Write, write, placeOf, handed, writesIn}
+use Rattle.writer.specs.Loading.{Push, refused, accepted, beginRefusal, beginWrites, pushRefusal, finishRefusal, blockSize, headerWrites}
+use Rattle.writer.specs.Calls.{outcome, writes, called, finished, handedOut, whereAccepted, blank, emptyOf, beginOf, takenOf, standingIn, nextFor, endFor, pushBytes, afterPush, pushOf, headerOf, afterFinish, finishOf, Good}
+use Rattle.writer.specs.declared.Place.{Place}
+use Rattle.writer.specs.declared.Looping.{Looping}
+use Rattle.writer.specs.declared.HpsWriter.{HpsWriter}
+use Rattle.writer.specs.declared.Called.{Called}
+use Rattle.writer.specs.declared.Finished.{Finished}
+use Rattle.writer.proofs.DueLaws.{passed, passed-finish}
+use Rattle.writer.proofs.WriteLaws.{bytes-length}
+use Rattle.writer.proofs.ServerLaws.{begin-place, push-place}
+use Rattle.noted.specs.Noted.{sizes, notedIn, noneNoted, Listed, Room, Notes}
+use Rattle.noted.specs.declared.Noted.{Noted}
+use Rattle.noted.proofs.NotedLaws.{none-listed}
+use Rattle.noted_calls.specs.NotedCalls.{lentOf, Tally, MadeBy, Begun}
+
+-- The writes that are handed out lie in the lent buffer.
+sizes-are : (ws : List Write) → sizes (map placeOf ws) ≡ length (handed ws)
+unfolding sizes sum handed
+sizes-are [] = refl
+sizes-are (w ∷ ws) = omega (arith, sizes-are ws, length-append (w .bytes) (handed ws))
+
+-- No write more.
+none-room : {j : Noted} {kept lent : List ℕ} → Listed j kept → Room j kept lent []
+unfolding sizes sum
+none-room l = record { few = omega (arith, l .few); handed = omega arith; space = omega (arith, l .inside) }
+
+-- These writes, where there is room for so many.
+some-room : {j : Noted} {kept : List ℕ} (lent : List ℕ) (ws : List Write) → j .count + length ws ≤ 516 → j .total + length (handed ws) ≤ length kept → Room j kept (handed ws ++ drop (length (handed ws)) lent) (map placeOf ws)
+some-room lent ws few space =
+    let n = sizes-are ws in
+    record {
+      few = omega (arith, length-map ws placeOf);
+      handed = omega (arith, length-append (handed ws) (drop (length (handed ws)) lent));
+      space = omega arith;
+    }
+
+-- ---- Any call
+
+module _ (n : ℕ) (w : HpsWriter) (lent : List ℕ) (next : HpsWriter) (m : ℕ) (ws : List Write) (j : Noted) (kept : List ℕ) where
+  -- What an accepted call must leave room for.
+  abbrev Fits : Type 0
+  Fits = eqb n 0 ≡ true → (j .count + length ws ≤ 516) × (j .total + length (handed ws) ≤ length kept)
+
+  room-for : Listed j kept → Fits → Room j kept (outcome n w lent next m ws .lent) (outcome n w lent next m ws .places)
+  room-for l h = by-cases (eqb n 0) (λ q. rw q (some-room lent ws (h q .0) (h q .1))) (λ q. rw q (none-room l))
+
+  -- What it must leave counted.
+  abbrev Counts : Type 0
+  Counts = eqb n 0 ≡ true → (next .slot ≤ 65536) × (next .finished ≡ false → (j .count + length ws ≡ suc (next .blocks)) × (j .total + length (handed ws) + 127 ≡ next .offset))
+
+  tally-after : {q : Noted} {after : List ℕ} → Tally j w kept → Counts → Notes j kept (outcome n w lent next m ws .lent) (outcome n w lent next m ws .places) q after → Tally q (outcome n w lent next m ws .writer) after
+  unfolding sizes sum
+  tally-after {q} {after} t c h =
+      let long = h .long in
+      let room = t .room in
+      by-cases (eqb n 0)
+      (λ e.
+      let k : q .count ≡ j .count + length (map placeOf ws) = rw e at (h .count) in
+      let b : q .total ≡ j .total + sizes (map placeOf ws) = rw e at (h .total) in
+      rw e (record {
+        listed = h .listed;
+        room = omega arith;
+        small = c e .0;
+        many = λ f. omega (arith, k, c e .1 f .0, length-map ws placeOf);
+        bytes = λ f. omega (arith, b, c e .1 f .1, sizes-are ws);
+      }))
+      (λ e.
+      let k : q .count ≡ j .count + 0 = rw e at (h .count) in
+      let b : q .total ≡ j .total + 0 = rw e at (h .total) in
+      rw e (record {
+        listed = h .listed;
+        room = omega arith;
+        small = t .small;
+        many = λ f. omega (arith, k, t .many f);
+        bytes = λ f. omega (arith, b, t .bytes f);
+      }))
+
+-- ---- Push
+
+one-handed : (at : ℕ) (bs : List ℕ) → length (handed (write at bs ∷ [])) ≡ length bs
+unfolding handed
+one-handed at bs = omega (arith, length-append bs [])
+
+module _ (w : HpsWriter) (p : Push) (lent : List ℕ) {j : Noted} {kept : List ℕ} (g : Good w) (t : Tally j w kept) where
+  n : ℕ
+  n = pushRefusal (standingIn w) (takenOf w p) p (length lent)
+
+  block : Write
+  block = write (w .offset) (pushBytes w p)
+
+  size : length (handed (block ∷ [])) ≡ blockSize (takenOf w p) p
+  unfolding block pushBytes
+  size = one-handed (w .offset) (pushBytes w p) ∙ bytes-length (nextFor w p) (w .base) (w .id) (takenOf w p) p
+
+  -- No push is accepted after the last block, so none after a finish.
+  unfinished : eqb n 0 ≡ true → w .finished ≡ false
+  unfolding n pushRefusal
+  unfinished q =
+      let f = passed _ _ _ _ _ _ _ _ _ _ _ _ _ (eqb-true _ 0 q) in
+      by-cases (w .finished) (λ d. apart (sym (g .done d) ∙ f .no26)) (λ d. d)
+
+  push-fits : Fits n w lent (afterPush w p) 0 (block ∷ []) j kept
+  unfolding n pushRefusal block
+  push-fits q =
+      let f = passed _ _ _ _ _ _ _ _ _ _ _ _ _ (eqb-true _ 0 q) in
+      let fit = ltb-false (w .slot) (w .offset + blockSize (takenOf w p) p) (f .no24) in
+      let many = leb-false 512 (w .blocks) (f .no25) in
+      let u = unfinished q in
+      (omega (arith, t .many u), omega (arith, t .bytes u, t .small, t .room, size))
+
+  push-counts : Counts n w lent (afterPush w p) 0 (block ∷ []) j kept
+  unfolding afterPush endFor block
+  push-counts q = (t .small, λ u. (omega (arith, t .many u), omega (arith, t .bytes u, size)))
+
+  module _ {call : Called} {l : List ℕ} (e : call ≡ called (pushOf w p lent)) (el : l ≡ pushOf w p lent .lent) where
+    pub push-room : Room j kept l (handedOut call)
+    unfolding pushOf n block
+    push-room = rw (e, el, push-place w p lent) (room-for n w lent (afterPush w p) 0 (block ∷ []) j kept (t .listed) push-fits)
+
+    pub push-made : {q : Noted} {after : List ℕ} → Good (call .writer) → Notes j kept l (handedOut call) q after
+        → MadeBy (pushOf w p lent) j kept (record { writer = call .writer; reply = call .reply; noted = q }) after
+    unfolding pushOf n block writes
+    push-made {q} {after} good h =
+        let k : Notes j kept (pushOf w p lent .lent) (pushOf w p lent .places) q after = rw (e, el, push-place w p lent) at h in
+        record {
+          writer = ap (λ (c : Called). c .writer) e;
+          reply = ap (λ (c : Called). c .reply) e;
+          good = good;
+          tally = rw e (tally-after n w lent (afterPush w p) 0 (block ∷ []) j kept t push-counts k);
+          is = k .is;
+        }
+
+-- ---- Finish
+
+module _ (w : HpsWriter) (lent : List ℕ) {j : Noted} {kept : List ℕ} (g : Good w) (t : Tally j w kept) where
+  number : ℕ
+  number = finishRefusal (w .finished) (w .blocks) (w .last) (length lent)
+
+  header : List Write
+  header = headerWrites (headerOf w)
+
+  header-size : length (handed header) ≤ 128
+  unfolding handed header
+  header-size =
+      let h = headerOf w in
+      let a = take 15 h in
+      let b = take 112 (drop 16 h) in
+      let c = take 1 (drop 15 h) in
+      omega (arith, length-append a (b ++ (c ++ [])), length-append b (c ++ []), length-append c [], length-take 15 h, length-take 112 (drop 16 h), length-take 1 (drop 15 h))
+
+  finish-fits : Fits number w lent (afterFinish w) (w .offset) header j kept
+  unfolding number header
+  finish-fits q =
+      let u = passed-finish _ _ _ _ (eqb-true _ 0 q) .no26 in
+      (omega (arith, t .many u, g .many), omega (arith, t .bytes u, t .small, t .room, g .room, header-size))
+
+  finish-counts : Counts number w lent (afterFinish w) (w .offset) header j kept
+  unfolding afterFinish
+  finish-counts q = (t .small, λ u. apart u)
+
+  module _ {call : Finished} {l : List ℕ} (e : call ≡ finished (finishOf w lent)) (el : l ≡ finishOf w lent .lent) (d : Place) where
+    abbrev Three : List Place
+    Three = whereAccepted (call .reply) (getD (call .places) 0 d ∷ getD (call .places) 1 d ∷ getD (call .places) 2 d ∷ [])
+
+    three : Three ≡ finishOf w lent .places
+    unfolding finishOf
+    three = rw e (by-cases (eqb (finishRefusal (w .finished) (w .blocks) (w .last) (length lent)) 0) (λ q. rw q) (λ q. rw q))
+
+    pub finish-room : Room j kept l Three
+    unfolding finishOf number header
+    finish-room = rw (three, el) (room-for number w lent (afterFinish w) (w .offset) header j kept (t .listed) finish-fits)
+
+    pub finish-made : {q : Noted} {after : List ℕ} → Good (call .writer) → Notes j kept l Three q after
+        → MadeBy (finishOf w lent) j kept (record { writer = call .writer; reply = call .reply; noted = q }) after
+    unfolding finishOf number header writes
+    finish-made {q} {after} good h =
+        let k : Notes j kept (finishOf w lent .lent) (finishOf w lent .places) q after = rw (three, el) at h in
+        record {
+          writer = ap (λ (c : Finished). c .writer) e;
+          reply = ap (λ (c : Finished). c .reply) e;
+          good = good;
+          tally = rw e (tally-after number w lent (afterFinish w) (w .offset) header j kept t finish-counts k);
+          is = k .is;
+        }
+
+-- ---- Begin
+
+module _ (slot ch : ℕ) (mode : Looping) (lent : List ℕ) {kept : List ℕ} {j : Noted} {call : Called} {l : List ℕ} (none : j ≡ noneNoted) (e : call ≡ called (beginOf slot ch mode lent)) (el : l ≡ beginOf slot ch mode lent .lent) where
+  begin-room : 65664 ≤ length kept → Room j kept l (handedOut call)
+  unfolding beginOf handed
+  begin-room room =
+      rw (none, e, el, begin-place slot ch mode lent)
+      (room-for (beginRefusal slot ch (length lent)) blank lent (emptyOf slot ch mode) 0 beginWrites noneNoted kept (none-listed kept) (λ q. (omega arith, omega arith)))
+
+  pub begin-made : {q : Noted} {after : List ℕ} → Good (call .writer) → (Room j kept l (handedOut call) → Notes j kept l (handedOut call) q after)
+      → Begun slot (beginOf slot ch mode lent) kept (record { writer = call .writer; reply = call .reply; noted = q }) after
+  unfolding beginOf writes notedIn writesIn sizes sum handed
+  begin-made {q} {after} good h =
+      let k : 65664 ≤ length kept → Notes noneNoted kept (beginOf slot ch mode lent .lent) (beginOf slot ch mode lent .places) q after = λ room. rw (none, e, el, begin-place slot ch mode lent) at (h (begin-room room)) in
+      record {
+        writer = ap (λ (c : Called). c .writer) e;
+        reply = ap (λ (c : Called). c .reply) e;
+        good = good;
+        tally = λ room small a.
+            by-cases (eqb (beginRefusal slot ch (length lent)) 0)
+            (λ z.
+            let n = k room in
+            let c : q .count ≡ 0 + 1 = rw z at (n .count) in
+            let b : q .total ≡ 0 + (1 + 0) = rw z at (n .total) in
+            rw (e, z) (record {
+              listed = n .listed;
+              room = omega (arith, n .long);
+              small = small;
+              many = λ u. omega arith;
+              bytes = λ u. omega arith;
+            }))
+            (λ z. let x : refused (beginRefusal slot ch (length lent)) ≡ accepted 0 = rw z at a in let y : _≡_ {A = ℕ} 0 1 = cc in absurd (omega arith));
+        is = λ room a. k room .is;
+      }
+
+-- ---- The lent buffer
+
+take-zeros : (k m : ℕ) → k ≤ m → take {A = ℕ} k (replicate m 0) ≡ replicate k 0
+take-zeros zero m h = refl
+take-zeros (suc k) zero h = absurd (omega arith)
+take-zeros (suc k) (suc m) h = ap (λ (bs : List ℕ). 0 ∷ bs) (take-zeros k m (omega arith))
+
+module _ (size : ℕ) {r : ℕ} {z : List ℕ} (zeros : z ≡ replicate 65536 0) (least : r ≡ min size 65536) where
+  pub lent-is : take r z ≡ lentOf size
+  lent-is = rw zeros (take-zeros r 65536 (omega arith) ∙ rw least)
+
+  pub lent-length : r ≡ length (take r z)
+  lent-length = rw lent-is (least ∙ sym (length-replicate (min size 65536) 0))

@@ -1,0 +1,45 @@
+-- Calls of a loading into a slot of at most 65,536 bytes, whose writes are noted.
+use Prim.Native.Nat.{ℕ, suc, _+_, _≤_, min}
+use mathlib.Core.Path.{_≡_}
+use mathlib.Core.Bool.{false}
+use mathlib.Core.List.{List, _++_}
+use lib.ListN.{length, replicate}
+use Rattle.writer.specs.Loading.{accepted}
+use Rattle.writer.specs.Calls.{Outcome, writes, replyOf, Good}
+use Rattle.writer.specs.declared.HpsWriter.{HpsWriter}
+use Rattle.noted.specs.Noted.{notedIn, Listed}
+use Rattle.noted.specs.declared.Noted.{Noted}
+use Rattle.noted_calls.specs.declared.Made.{Made}
+
+-- "(the length of the lent buffer for the calls after it; long enough for any call unless set)": 65,536 bytes are long enough for a slot of as many
+abbrev pub longLent : ℕ
+longLent = 65536
+
+-- The lent buffer of a call.
+abbrev pub lentOf : (length : ℕ) → List ℕ
+lentOf n = replicate (min n longLent) 0
+
+-- What is noted by the writer's record: before the finish begin's write and each block's, so that there is room for all that may come: 516 writes, of 65,664
+-- bytes at most.
+pub record Tally (j : Noted) (w : HpsWriter) (kept : List ℕ) : Type 0 where
+  pub listed : Listed j kept
+  pub room : 65664 ≤ length kept
+  pub small : w .slot ≤ 65536
+  pub many : w .finished ≡ false → j .count ≡ suc (w .blocks)
+  pub bytes : w .finished ≡ false → j .total + 127 ≡ w .offset
+
+-- What a call leaves: record and answer are the call's, and its writes are noted after the others.
+pub record MadeBy (o : Outcome) (j : Noted) (kept : List ℕ) (m : Made) (after : List ℕ) : Type 0 where
+  pub writer : m .writer ≡ o .writer
+  pub reply : m .reply ≡ replyOf (o .answer)
+  pub good : Good (m .writer)
+  pub tally : Tally (m .noted) (m .writer) after
+  pub is : notedIn (m .noted) after ≡ notedIn j kept ++ writes o
+
+-- What begin leaves; where it is accepted, for a slot of at most 65,536 bytes, its write is noted.
+pub record Begun (slot : ℕ) (o : Outcome) (kept : List ℕ) (m : Made) (after : List ℕ) : Type 0 where
+  pub writer : m .writer ≡ o .writer
+  pub reply : m .reply ≡ replyOf (o .answer)
+  pub good : Good (m .writer)
+  pub tally : 65664 ≤ length kept → slot ≤ 65536 → o .answer ≡ accepted 0 → Tally (m .noted) (m .writer) after
+  pub is : 65664 ≤ length kept → o .answer ≡ accepted 0 → notedIn (m .noted) after ≡ writes o

@@ -1,0 +1,2 @@
+pub mod TypedLaws
+pub mod CutLaws

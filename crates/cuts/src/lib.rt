@@ -20,7 +20,7 @@ use times::show_times;
 ghost use mathlib.Core.Path.{_≡_};
 ghost use Prim.Native.Nat.{_≤_};
 ghost use lib.ListN.{length};
-ghost use Rattle.noted.specs.Noted.{notedIn};
+ghost use Rattle.noted.specs.Noted.{notedIn, Listed};
 ghost use Rattle.calls.specs.Script.{scriptWrites};
 ghost use Rattle.cuts.specs.Moments.{slotOf};
 
@@ -72,32 +72,32 @@ fn show_moment(
     print_slot(fd, earlier, text, m, slot);
 }
 
-// One moment. A refused begin's line is the whole answer.
-fn answer_moment(fd: i32, earlier: &[u8], text: &[u8], moment: u64)
-    requires { ⌜ length (now text) ≤ 1048576 ⌝ }
-{
-    let n = earlier.len();
-    let mut kept = kept_room();
-    let loaded = load(Voice { fd, say: false }, text, n, &mut kept);
-    if loaded.refused {
-        return;
+fn is_all(ask: Ask) -> bool {
+    match ask {
+        Ask::All => true,
+        Ask::Moment(_) => false,
     }
-    let mut slot = slot_room();
-    if n > slot.len() {
-        return;
-    }
-    put_bytes(&mut slot, 0, earlier);
-    let j = loaded.noted;
-    show_moment(fd, earlier, text, &mut slot[..n], j, &kept, moment);
 }
 
-// Every moment.
-fn answer_all(fd: i32, earlier: &[u8], text: &[u8])
+// What is asked, of a slot that is a copy of the earlier one.
+fn show(fd: i32, earlier: &[u8], text: &[u8], slot: &mut [u8], j: Noted, kept: &[u8], ask: Ask)
+    requires { ⌜ Listed j (now kept) × (notedIn j (now kept) ≡ scriptWrites (length (now earlier)) (now text)) ⌝ }
+    requires { ⌜ now slot ≡ now earlier ⌝ }
+{
+    match ask {
+        Ask::All => show_times(fd, earlier, text, slot, j, kept),
+        Ask::Moment(moment) => show_moment(fd, earlier, text, slot, j, kept, moment),
+    }
+}
+
+// The answer to a well-formed script. A refused begin's line is all of it.
+fn answer_script(fd: i32, earlier: &[u8], text: &[u8], ask: Ask)
     requires { ⌜ length (now text) ≤ 1048576 ⌝ }
 {
     let n = earlier.len();
     let mut kept = kept_room();
-    let loaded = load(Voice { fd, say: true }, text, n, &mut kept);
+    let say = is_all(ask);
+    let loaded = load(Voice { fd, say }, text, n, &mut kept);
     if loaded.refused {
         return;
     }
@@ -107,7 +107,7 @@ fn answer_all(fd: i32, earlier: &[u8], text: &[u8])
     }
     put_bytes(&mut slot, 0, earlier);
     let j = loaded.noted;
-    show_times(fd, earlier, text, &mut slot[..n], j, &kept);
+    show(fd, earlier, text, &mut slot[..n], j, &kept, ask);
 }
 
 pub fn answer(fd: i32, earlier: &[u8], text: &[u8], ask: Ask) {
@@ -123,8 +123,5 @@ pub fn answer(fd: i32, earlier: &[u8], text: &[u8], ask: Ask) {
         print_numbers(fd, b"LINE", [wrong as u64, 0, 0], 1);
         return;
     }
-    match ask {
-        Ask::All => answer_all(fd, earlier, text),
-        Ask::Moment(moment) => answer_moment(fd, earlier, text, moment),
-    }
+    answer_script(fd, earlier, text, ask);
 }

@@ -67,11 +67,11 @@ module _ (l : List ℕ) (c : CueIterator) where
       let a2 = at-left (be64 (c .block) ++ be64 (c .place)) (be64 (c .base)) a3 in
       let n3 : length (be64 (c .block) ++ be64 (c .place) ++ be64 (c .base)) ≡ 24 = unfold be64 be32 in refl in
       let n2 : length (be64 (c .block) ++ be64 (c .place)) ≡ 16 = unfold be64 be32 in refl in
-      let e1 : longAt (putAt l 0 bs) 0 ≡ c .block = long-back (f .block) (at-left (be64 (c .block)) (be64 (c .place)) a2) in
-      let e2 : longAt (putAt l 0 bs) 8 ≡ c .place = long-back (f .place) (at-move 8 (omega (arith, be64-length (c .block))) (at-right (be64 (c .block)) (be64 (c .place)) a2)) in
-      let e3 : longAt (putAt l 0 bs) 16 ≡ c .base = long-back (f .base) (at-move 16 (omega arith) (at-right (be64 (c .block) ++ be64 (c .place)) (be64 (c .base)) a3)) in
+      let e1 : longAt (putAt l 0 bs) 0 ≡ c .block = long-back 0 (f .block) (at-left (be64 (c .block)) (be64 (c .place)) a2) in
+      let e2 : longAt (putAt l 0 bs) 8 ≡ c .place = long-back 8 (f .place) (at-move 8 (omega (arith, be64-length (c .block))) (at-right (be64 (c .block)) (be64 (c .place)) a2)) in
+      let e3 : longAt (putAt l 0 bs) 16 ≡ c .base = long-back 16 (f .base) (at-move 16 (omega arith) (at-right (be64 (c .block) ++ be64 (c .place)) (be64 (c .base)) a3)) in
       let e4 : wordAt (putAt l 0 bs) 24 ≡ pick (c .due) 0 1 =
-      word-back (zero-or-one (c .due)) (at-move 24 (omega arith) (at-right (be64 (c .block) ++ be64 (c .place) ++ be64 (c .base)) (be32 (pick (c .due) 0 1)) a)) in
+      word-back 24 (zero-or-one (c .due)) (at-move 24 (omega arith) (at-right (be64 (c .block) ++ be64 (c .place) ++ be64 (c .base)) (be32 (pick (c .due) 0 1)) a)) in
       rw (e1, e2, e3, e4) (due-back (c .due) (looped (r .«loop_start»)) (f .due))
     where
       zero-or-one : (d : Bool) → pick d 0 1 < 4294967296

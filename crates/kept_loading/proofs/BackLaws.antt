@@ -31,7 +31,7 @@ use Rattle.writer.specs.declared.LoopAt.{LoopAt}
 use Rattle.push_plan.specs.PushPlan.{streamOf, writerOf}
 use Rattle.push_plan.specs.declared.Stream.{Stream}
 use Rattle.kept_reader.specs.KeptReader.{be64, wordAt, longAt}
-use Rattle.kept_reader.proofs.LongLaws.{be64-length}
+use Rattle.kept_reader.proofs.LongLaws.{be64-length, word-back, long-back}
 use Rattle.kept_reader.proofs.ReadBackLaws.{Agree}
 use Rattle.kept_sides.specs.KeptSides.{halfAt, signedAt, signedFrom, sideIn, cuesFrom, tableIn}
 use Rattle.kept_sides.proofs.SameLaws.{word-same, long-same, side-same, table-same}
@@ -40,7 +40,7 @@ use Rattle.kept_puts.proofs.NumberLaws.{places-length, sums-length, numbers-len
 use Rattle.kept_writer.specs.KeptWriter.{modeOf, loopOf, fieldsIn, sensible, streamIn, writerIn}
 use Rattle.kept_writer.proofs.KeptLaws.{holds-record, kept-good}
 use Rattle.kept_puts.proofs.SameLaws.{same-before, same-after}
-use Rattle.kept_puts.proofs.ThereLaws.{word-back, long-back, put-there}
+use Rattle.kept_puts.proofs.ThereLaws.{put-there}
 use Rattle.kept_record.specs.KeptRecord.{sideBytes, recordBytes}
 use Rattle.kept_record.proofs.RecordLaws.{side-length}
 use Rattle.kept_loading.specs.KeptLoading.{numberOf}

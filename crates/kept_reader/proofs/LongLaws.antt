@@ -1,5 +1,5 @@
 -- A u64 put by its halves, and read back.
-use Prim.Native.Nat.{ℕ, _+_, _/_, _%_, _^_, _≤_, _<_}
+use Prim.Native.Nat.{ℕ, _+_, _/_, _%_, _≤_, _<_}
 use mathlib.Core.Path.{_≡_, refl, ap, _∙_}
 use mathlib.Core.List.{List}
 use native.Mathlib.Omega.{arith}
@@ -33,13 +33,13 @@ putLong-length a at x = putAt-length _ _ _ ∙ putAt-length a at _
 
 -- ---- Read back
 
-pub word-back : {s : List ℕ} {off x : ℕ} → x < 4294967296 → At s off (be32 x) → wordAt s off ≡ x
-word-back {s} {off} {x} h a = word-in s off (omega (arith, at-inside a, be32-length x)) ∙ u32-back h a
+pub word-back : {s : List ℕ} (off : ℕ) {x : ℕ} → x < 4294967296 → At s off (be32 x) → wordAt s off ≡ x
+word-back {s} off {x} h a = word-in s off (omega (arith, at-inside a, be32-length x)) ∙ u32-back h a
 
-pub long-back : {s : List ℕ} {off x : ℕ} → x < 2 ^ 64 → At s off (be64 x) → longAt s off ≡ x
+pub long-back : {s : List ℕ} (off : ℕ) {x : ℕ} → x < 18446744073709551616 → At s off (be64 x) → longAt s off ≡ x
 unfolding longAt be64
-long-back {s} {off} {x} h a =
-    let p : wordAt s off ≡ x / 4294967296 = word-back (omega arith) (at-left (be32 (x / 4294967296)) (be32 (x % 4294967296)) a) in
+long-back {s} off {x} h a =
+    let p : wordAt s off ≡ x / 4294967296 = word-back off (omega arith) (at-left (be32 (x / 4294967296)) (be32 (x % 4294967296)) a) in
     let q : wordAt s (off + 4) ≡ x % 4294967296 =
-    word-back (omega arith) (at-move (off + 4) (ap (λ (m : ℕ). off + m) (be32-length (x / 4294967296))) (at-right (be32 (x / 4294967296)) (be32 (x % 4294967296)) a)) in
+    word-back (off + 4) (omega arith) (at-move (off + 4) (ap (λ (m : ℕ). off + m) (be32-length (x / 4294967296))) (at-right (be32 (x / 4294967296)) (be32 (x % 4294967296)) a)) in
     rw (p, q) (omega arith)

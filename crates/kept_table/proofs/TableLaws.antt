@@ -17,9 +17,9 @@ use Rattle.writer.specs.Calls.{noCue}
 use Rattle.writer.specs.declared.Cue.{Cue}
 use Rattle.writer.specs.declared.CueKind.{CueKind}
 use Rattle.kept_reader.specs.KeptReader.{be64, putLong, wordAt, longAt}
-use Rattle.kept_reader.proofs.LongLaws.{be64-length, long-put}
+use Rattle.kept_reader.proofs.LongLaws.{be64-length, long-put, word-back, long-back}
 use Rattle.kept_sides.specs.KeptSides.{kindOf, cueIn, cuesFrom, tableIn}
-use Rattle.kept_puts.proofs.ThereLaws.{word-back, long-back, put-there}
+use Rattle.kept_puts.proofs.ThereLaws.{put-there}
 use Rattle.kept_puts.proofs.SameLaws.{Same, same-then, same-before, same-after, long-same}
 use Rattle.kept_table.specs.KeptTable.{entryBytes, EntryFits, entriesBytes, tablePut, firstOf}
 

@@ -56,7 +56,7 @@ beginBy n b st = beginOf n (b .channels) (b .mode) (lentOf (st .lent))
 module _ (slot : ℕ) {n : ℕ} {s line : List ℕ} {st : Start} {b : BeginLine} {r : Bool} {kept : List ℕ} {m : Made} {after : List ℕ} (start : Starts s 65536 st) (el : line ≡ lineOf (drop (st .at) s)) (eb : b ≡ beginLine line) (en : n ≡ begunLength slot) (made : Begun n (beginBy n b st) kept m after) (er : r ≡ refusedReply (m .reply)) where
   is-begins : beginBy n b st ≡ begins slot s
   unfolding begins
-  is-begins = rw (en, eb, el, start .line, start .length)
+  is-begins = rw (en, eb, el, start .line, start .buffer)
 
   answer-is : r ≡ isRefused (begins slot s .answer)
   answer-is = er ∙ rw (made .reply) (same-refusal (beginBy n b st .answer)) ∙ ap (λ (x : Outcome). isRefused (x .answer)) is-begins
@@ -79,5 +79,5 @@ module _ (slot : ℕ) {n : ℕ} {s line : List ℕ} {st : Start} {b : BeginLine}
     loads-all next d f e =
         record {
           refused = f ∙ sym a ∙ answer-is;
-          is = λ g. e ∙ rw (made .is room (fine .1), made .writer, is-begins, d, start .rest, start .length);
+          is = λ g. e ∙ rw (made .is room (fine .1), made .writer, is-begins, d, start .rest, start .buffer);
         }

@@ -142,7 +142,7 @@ module _ {s : List ℕ} {lent at now : ℕ} (k : Opens s lent at now) where
     unfolding openingFrom
     opens-here q =
         let f : openingFrom lent (linesOf s) ≡ record { line = lineOf (drop at s); lent = now; rest = linesOf (nextOf (drop at s)) } = k .is ∙ rw (lines-at s at h, ← l, ← e, ← t, q) in
-        record { line = rw f; length = rw f; rest = rw f }
+        record { line = rw f; buffer = rw f; rest = rw f }
 
     pub opens-later : {next more : ℕ} → b ≡ false → more ≡ lentBy kind line now → drop next s ≡ nextOf (drop at s) → Opens s lent next more
     unfolding openingFrom
@@ -153,4 +153,4 @@ module _ {s : List ℕ} {lent at now : ℕ} (k : Opens s lent at now) where
   opens-never h =
       let z = past-end s at h in
       let f : openingFrom lent (linesOf s) ≡ record { line = []; lent = now; rest = [] } = k .is ∙ rw (z, lines-none) in
-      record { line = rw (z, f, line-end); length = rw f; rest = rw (z, f, next-end, lines-none) }
+      record { line = rw (z, f, line-end); buffer = rw f; rest = rw (z, f, next-end, lines-none) }

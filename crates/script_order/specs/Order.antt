@@ -46,5 +46,5 @@ pub record Said (s : List ℕ) (from at : ℕ) : Type 0 where
 -- Here BEGN's line starts.
 pub record Starts (s : List ℕ) (lent : ℕ) (r : Start) : Type 0 where
   pub line : lineOf (drop (r .at) s) ≡ openingFrom lent (linesOf s) .line
-  pub length : r .lent ≡ openingFrom lent (linesOf s) .lent
+  pub buffer : r .lent ≡ openingFrom lent (linesOf s) .lent
   pub rest : linesOf (nextOf (drop (r .at) s)) ≡ openingFrom lent (linesOf s) .rest

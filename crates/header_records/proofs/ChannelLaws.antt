@@ -1,6 +1,7 @@
 -- A channel read field by field: its coefficients one after the other, and the answer that the fields come to.
 use Prim.Native.Nat.{ℕ, zero, suc, _+_, _*_, _-_, _≤_, _<_}
 use mathlib.Core.Path.{_≡_, refl, sym, ap, _∙_}
+use mathlib.Core.Bool.{not}
 use mathlib.Core.List.{List, [], _∷_, _++_, append-nil}
 use native.Mathlib.Omega.{arith}
 use native.Mathlib.Numerals.{add-one}
@@ -8,15 +9,15 @@ use lib.ListN.{length, set, replicate}
 use lib.Seq.{set-at, append-snoc}
 use lib.Dec.{eqb}
 use lib.IntN.{ℤ, pos}
-use Rattle.layout.specs.Records.{Read, u16At, i16At, i16s, formatOf, channelAt, readChannel}
-use Rattle.layout.specs.Answers.{formatRead, channelRead, channelRefused}
+use mir.Syntax.{w16}
+use mir.Val.{SFits, ofZ, toZ}
+use mir.Facts.{toZ-ofZ}
+use Rattle.layout.specs.Records.{Read, field, on, u16At, u32At, i16At, i16s, contextAt, formatOf, channelAt, readChannel, noChannel}
+use Rattle.layout.specs.Answers.{valueOr}
+use Rattle.layout.specs.declared.FrameContext.{FrameContext}
 use Rattle.layout.specs.declared.DspFormat.{DspFormat}
 use Rattle.layout.specs.declared.Channel.{Channel}
-use Rattle.layout.specs.declared.answers.FormatRead.{FormatRead}
-use Rattle.layout.specs.declared.answers.ChannelAnswer.{ChannelAnswer}
-use Rattle.layout.specs.declared.answers.ChannelRead.{ChannelRead}
-use Rattle.layout.proofs.Cases.{by-cases}
-use Rattle.layout.proofs.FieldLaws.{Got, Answers, field-inside, field-past}
+use Rattle.layout.proofs.FieldLaws.{Got, Missed, field-inside, field-later, answer-in}
 
 -- ---- Coefficients
 
@@ -36,62 +37,77 @@ i16s-more s at (suc n) =
 -- of sixteen numbers the first i are read
 pub record Reading (s : List ℕ) (at : ℕ) (zs : List ℤ) (i : ℕ) : Type 0 where
   pub few : i ≤ 16
+  pub inside : at + i * 2 ≤ length s
   pub is : zs ≡ i16s s at i ++ replicate (16 - i) (pos 0)
 
-pub reading-none : (s : List ℕ) (at : ℕ) → Reading s at (replicate 16 (pos 0)) 0
+pub reading-none : (s : List ℕ) (at : ℕ) → at ≤ length s → Reading s at (replicate 16 (pos 0)) 0
 unfolding i16s
-reading-none s at = record { few = omega arith; is = refl }
+reading-none s at h = record { few = omega arith; inside = omega arith; is = refl }
 
-pub reading-more : {s : List ℕ} {at : ℕ} {zs : List ℤ} {i : ℕ} {z : ℤ} → Reading s at zs i → i < 16 → z ≡ i16At s (at + i * 2) → Reading s at (set zs i z) (i + 1)
-reading-more {s} {at} {zs} {i} {z} r h e =
-    let l = i16s-length s at i in
-    let rest = replicate (16 - (i + 1)) (pos 0) in
-    let n : 16 - i ≡ suc (16 - (i + 1)) = omega arith in
-    record {
-      few = omega arith;
-      is =
-          rw (r .is, n, set-at (i16s s at i) (pos 0) rest z i l, e)
-          (sym (append-snoc (i16s s at i) (i16At s (at + i * 2)) rest) ∙ ap (λ (l : List ℤ). l ++ rest) (i16s-more s at i ∙ ap (i16s s at) (sym (add-one i))));
-    }
+module _ {s : List ℕ} {at : ℕ} {zs : List ℤ} {i : ℕ} (r : Reading s at zs i) where
+  pub reading-more : {z : ℤ} → i < 16 → Got s (at + i * 2 + 2) (i16At s (at + i * 2)) z → SFits w16 z → Reading s at (set zs i (toZ w16 (ofZ w16 z))) (i + 1)
+  reading-more {z} h g f =
+      let l = i16s-length s at i in
+      let rest = replicate (16 - (i + 1)) (pos 0) in
+      let n : 16 - i ≡ suc (16 - (i + 1)) = omega arith in
+      record {
+        few = omega arith;
+        inside = omega (arith, g .inside);
+        is =
+            rw (r .is, n, toZ-ofZ f, set-at (i16s s at i) (pos 0) rest z i l, g .is)
+            (sym (append-snoc (i16s s at i) (i16At s (at + i * 2)) rest) ∙ ap (λ (l : List ℤ). l ++ rest) (i16s-more s at i ∙ ap (i16s s at) (sym (add-one i))));
+      }
 
-pub reading-all : {s : List ℕ} {at : ℕ} {zs : List ℤ} {i : ℕ} → Reading s at zs i → 16 ≤ i → zs ≡ i16s s at 16
-reading-all {s} {at} {zs} {i} r h =
-    let e : i ≡ 16 = omega (arith, r .few) in
-    r .is ∙ rw e (append-nil (i16s s at 16))
+  -- the one at i is refused
+  pub reading-stops : {n : ℕ} → i < 16 → Missed s (at + i * 2 + 2) (i16At s (at + i * 2)) n → Read.refused n ≡ field s (at + 32) (i16s s at 16)
+  reading-stops h m = field-later m (at + 32) (i16s s at 16) (omega arith)
 
--- ---- Format
+  pub reading-all : 16 ≤ i → Read.value zs ≡ field s (at + 32) (i16s s at 16)
+  reading-all h =
+      let e : i ≡ 16 = omega (arith, r .few) in
+      answer-in s (at + 32) (i16s s at 16) (omega (arith, r .inside)) (r .is ∙ rw e (append-nil (i16s s at 16)))
 
-pub format : Answers FormatRead.Value FormatRead.Unknown
-format = record { apart = λ a e. (let z : _≡_ {A = ℕ} 0 1 = cc in omega arith); same = λ a b e. cc }
+-- ---- A read whose value stands beside its answer
 
-pub format-unknown : (n : ℕ) {r : FormatRead} → r ≡ formatRead (formatOf n) → r ≡ FormatRead.Unknown → formatOf n ≡ Read.refused 4
-format-unknown n {r} e f =
-    by-cases (eqb n 0) (λ t. absurd (format .apart _ (sym (rw t at e) ∙ f))) (λ t.
-    by-cases (eqb n 10) (λ u. absurd (format .apart _ (sym (rw (t, u) at e) ∙ f))) (λ u.
-    by-cases (eqb n 25) (λ v. absurd (format .apart _ (sym (rw (t, u, v) at e) ∙ f))) (λ v.
-    rw (t, u, v))))
+module _ {A : Type 0} {said : Read A} {v : A} (none : A) (x : Read A) where
+  pub beside-refused : {n : ℕ} → said ≡ Read.refused n → v ≡ none → Read.refused n ≡ x → (said ≡ x) × (v ≡ valueOr none x)
+  beside-refused e f g = (e ∙ g, f ∙ ap (valueOr none) g)
+
+  pub beside-value : said ≡ Read.value v → Read.value v ≡ x → (said ≡ x) × (v ≡ valueOr none x)
+  beside-value e g = (e ∙ g, ap (valueOr none) g)
 
 -- ---- The channel
 
 module _ (s : List ℕ) (at : ℕ) where
-  pub channel-short : length s < at + 4 → channelRefused ChannelAnswer.Short ≡ channelRead (readChannel s at)
+  -- looping is refused, or the format's number
+  pub channel-short : {A : Type 0} {past : ℕ} {a : A} {n : ℕ} → Missed s past a n → past ≤ at + 4 → Read.refused n ≡ readChannel s at
   unfolding readChannel
-  channel-short h = rw (field-past s (at + 4) (u16At s (at + 2)) h)
+  channel-short m h = rw (← field-later m (at + 4) (u16At s (at + 2)) h)
 
   module _ {n : ℕ} (g : Got s (at + 2 + 2) (u16At s (at + 2)) n) where
-    number : n ≡ u16At s (at + 2)
-    number = g .is
-
-    pub channel-unknown : formatOf n ≡ Read.refused 4 → channelRefused ChannelAnswer.Unknown ≡ channelRead (readChannel s at)
+    -- what follows the number
+    channel-on : readChannel s at ≡ on (formatOf n) Read.refused (λ f. field s (at + 56) (channelAt s at f))
     unfolding readChannel
-    channel-unknown e = rw (field-inside s (at + 4) (u16At s (at + 2)) (omega (arith, g .inside)), ← number, e)
+    channel-on = rw (field-inside s (at + 4) (u16At s (at + 2)) (omega (arith, g .inside)), ← (g .is))
 
-    module _ {f : DspFormat} (e : formatOf n ≡ Read.value f) where
-      pub channel-cut : length s < at + 56 → channelRefused ChannelAnswer.Short ≡ channelRead (readChannel s at)
-      unfolding readChannel
-      channel-cut h = rw (field-inside s (at + 4) (u16At s (at + 2)) (omega (arith, g .inside)), ← number, e, field-past s (at + 56) (channelAt s at f) h)
+    pub channel-unknown : {k : ℕ} → formatOf n ≡ Read.refused k → Read.refused k ≡ readChannel s at
+    channel-unknown e = sym (channel-on ∙ rw e)
 
-      pub channel-made : {c : Channel} → at + 56 ≤ length s → c ≡ channelAt s at f
-          → _≡_ {A = ChannelRead} (record { answer = ChannelAnswer.Value; channel = c }) (channelRead (readChannel s at))
-      unfolding readChannel
-      channel-made h i = rw (field-inside s (at + 4) (u16At s (at + 2)) (omega (arith, g .inside)), ← number, e, field-inside s (at + 56) (channelAt s at f) h, i)
+    -- what the fields after the format come to, the channel comes to
+    pub channel-known : {f : DspFormat} {said : Read Channel} {v : Channel} → formatOf n ≡ Read.value f
+        → (said ≡ field s (at + 56) (channelAt s at f)) × (v ≡ valueOr noChannel (field s (at + 56) (channelAt s at f)))
+        → (said ≡ readChannel s at) × (v ≡ valueOr noChannel (readChannel s at))
+    channel-known {f} e p =
+        let k : readChannel s at ≡ field s (at + 56) (channelAt s at f) = channel-on ∙ rw e in
+        (p .0 ∙ sym k, p .1 ∙ ap (valueOr noChannel) (sym k))
+
+  -- a refused field after the format
+  pub rest-out : {A : Type 0} {past : ℕ} {a : A} {n : ℕ} (f : DspFormat) → Missed s past a n → past ≤ at + 56 → Read.refused n ≡ field s (at + 56) (channelAt s at f)
+  rest-out f m h = field-later m (at + 56) (channelAt s at f) h
+
+  pub rest-made : (f : DspFormat) {k l e u g : ℕ} {zs : List ℤ} {c : FrameContext} → k ≡ u16At s at → Got s (at + 4 + 4) (u32At s (at + 4)) l → Got s (at + 8 + 4) (u32At s (at + 8)) e
+      → Got s (at + 12 + 4) (u32At s (at + 12)) u → Got s (at + 16 + 32) (i16s s (at + 16) 16) zs → Got s (at + 48 + 2) (u16At s (at + 48)) g → Got s (at + 50 + 6) (contextAt s (at + 50)) c
+      → _≡_ {A = Read Channel} (Read.value (record { looping = not (eqb k 0); format = f; «loop_address» = l; «end_address» = e; «current_address» = u; coefficients = zs; gain = g; context = c }))
+      (field s (at + 56) (channelAt s at f))
+  unfolding channelAt
+  rest-made f i l e u z g c = answer-in s (at + 56) (channelAt s at f) (omega (arith, c .inside)) (rw (i, l .is, e .is, u .is, z .is, g .is, c .is))

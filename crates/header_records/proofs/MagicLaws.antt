@@ -10,9 +10,7 @@ use lib.ListN.{length, getD, take}
 use lib.Seq.{getD-take, length-take-le}
 use Rattle.layout.specs.Choice.{_and_}
 use Rattle.layout.specs.Lists.{same}
-use Rattle.layout.specs.Records.{Read, field, magic}
-use Rattle.layout.specs.Answers.{magicRead}
-use Rattle.layout.specs.declared.answers.MagicRead.{MagicRead}
+use Rattle.layout.specs.Records.{Read, field, magic, readMagic}
 use Rattle.layout.proofs.FieldLaws.{field-inside, field-past}
 
 -- ---- Two lists of numbers, element by element
@@ -39,14 +37,15 @@ same-false (x ∷ xs) (y ∷ ys) l (suc k) h f = and-false (eqb x y) (same xs ys
 -- ---- The answer that the bytes come to
 
 module _ (s : List ℕ) where
-  pub magic-short : length s < 8 → MagicRead.Short ≡ magicRead (field s 8 (same (take 8 s) magic))
-  magic-short h = rw (field-past s 8 (same (take 8 s) magic) h)
+  pub magic-short : length s < 8 → Read.refused 1 ≡ readMagic s
+  unfolding readMagic
+  magic-short h = rw (field-past s 8 (take 8 s) h)
 
   module _ (h : 8 ≤ length s) where
-    pub magic-right : ((k : ℕ) → k < 8 → getD s k 0 ≡ getD magic k 0) → MagicRead.Right ≡ magicRead (field s 8 (same (take 8 s) magic))
-    magic-right f =
-        rw (field-inside s 8 (same (take 8 s) magic) h, same-true (take 8 s) magic (length-take-le 8 s h) (λ k l. getD-take 8 s k 0 l ∙ f k l))
+    pub magic-right : ((k : ℕ) → k < 8 → getD s k 0 ≡ getD magic k 0) → Read.value magic ≡ readMagic s
+    unfolding readMagic
+    magic-right f = rw (field-inside s 8 (take 8 s) h, same-true (take 8 s) magic (length-take-le 8 s h) (λ k l. getD-take 8 s k 0 l ∙ f k l))
 
-    pub magic-wrong : (k : ℕ) → k < 8 → (getD s k 0 ≡ getD magic k 0 → ⊥) → MagicRead.Wrong ≡ magicRead (field s 8 (same (take 8 s) magic))
-    magic-wrong k l f =
-        rw (field-inside s 8 (same (take 8 s) magic) h, same-false (take 8 s) magic (length-take-le 8 s h) k l (λ e. f (sym (getD-take 8 s k 0 l) ∙ e)))
+    pub magic-wrong : (k : ℕ) → k < 8 → (getD s k 0 ≡ getD magic k 0 → ⊥) → Read.refused 2 ≡ readMagic s
+    unfolding readMagic
+    magic-wrong k l f = rw (field-inside s 8 (take 8 s) h, same-false (take 8 s) magic (length-take-le 8 s h) k l (λ e. f (sym (getD-take 8 s k 0 l) ∙ e)))

@@ -2,30 +2,33 @@
 use layout::Channel;
 use layout::DspFormat;
 use layout::FrameContext;
-use layout::answers::ChannelAnswer;
 use layout::answers::ChannelRead;
+use layout::answers::CoefficientsRead;
+use layout::answers::ContextRead;
 use layout::answers::FormatRead;
+use layout::answers::ReadAnswer;
+use layout::fields::I16Read;
 use layout::fields::U16Read;
-use layout::fields::be16;
-use layout::fields::be32;
-use layout::fields::inside;
+use layout::fields::U32Read;
+use layout::fields::read_i16;
 use layout::fields::read_u16;
-use layout::fields::signed16;
-use records::context::context_at;
+use layout::fields::read_u32;
+use records::context::read_context;
 ghost use mathlib.Core.Path.{_≡_};
 ghost use Prim.Native.Nat.{_+_, _≤_};
-ghost use lib.ListN.{length};
-ghost use Rattle.layout.specs.Records.{u16At, i16s, formatOf, channelAt, readChannel, noChannel};
-ghost use Rattle.layout.specs.Answers.{formatRead, channelRead, channelRefused};
+ghost use lib.ListN.{length, replicate};
+ghost use lib.IntN.{pos};
+ghost use Rattle.layout.specs.Records.{Read, field, u16At, i16s, formatOf, channelAt, readChannel, noChannel};
+ghost use Rattle.layout.specs.Answers.{formatSays, coefficientsSays, channelSays, valueOr};
 
 pub fn format_of(n: u16) -> FormatRead
-    ensures { λ r. ⌜ r ≡ formatRead (formatOf n) ⌝ }
+    ensures { λ r. ⌜ formatSays r ≡ formatOf n ⌝ }
 {
     match n {
         0 => FormatRead::Value(DspFormat::Adpcm),
         10 => FormatRead::Value(DspFormat::Pcm16),
         25 => FormatRead::Value(DspFormat::Pcm8),
-        _ => FormatRead::Unknown,
+        _ => FormatRead::Refused(4),
     }
 }
 
@@ -52,39 +55,76 @@ pub fn no_channel() -> Channel
     }
 }
 
-fn refused(answer: ChannelAnswer) -> ChannelRead
-    ensures { λ r. ⌜ r ≡ channelRefused answer ⌝ }
+fn refused(number: u32) -> ChannelRead
+    ensures { λ r. ⌜ (channelSays r ≡ Read.refused number) × (r .channel ≡ noChannel) ⌝ }
 {
+    let answer = ReadAnswer::Refused(number);
     let channel = no_channel();
     ChannelRead { answer, channel }
 }
 
-// The coefficients at an offset that is known to have their bytes in the slot.
-fn coefficients_at(s: &[u8], at: usize) -> [i16; 16]
-    requires { ⌜ at + 32 ≤ length (now s) ⌝ }
-    ensures { λ r. ⌜ r ≡ i16s (now (s .entry)) at 16 ⌝ }
+// The coefficients, zeros where one of them is refused.
+fn read_coefficients(s: &[u8], at: usize) -> CoefficientsRead
+    requires { ⌜ at ≤ length (now s) ⌝ }
+    ensures { λ r. ⌜ coefficientsSays r ≡ field (now (s .entry)) (at + 32) (i16s (now (s .entry)) at 16) ⌝ }
+    ensures { λ r. ⌜ r .coefficients ≡ valueOr (replicate 16 (pos 0)) (field (now (s .entry)) (at + 32) (i16s (now (s .entry)) at 16)) ⌝ }
 {
     let mut coefficients = [0i16; 16];
     let mut i: usize = 0;
     while i < 16 {
-        coefficients[i] = signed16(be16(s, at + i * 2));
+        let read = read_i16(s, at + i * 2);
+        let I16Read::Value(coefficient) = read else {
+            let answer = ReadAnswer::Refused(read.number());
+            let coefficients = [0i16; 16];
+            return CoefficientsRead {
+                answer,
+                coefficients,
+            };
+        };
+        coefficients[i] = coefficient;
         i += 1;
     }
-    coefficients
+    let answer = ReadAnswer::Value;
+    CoefficientsRead {
+        answer,
+        coefficients,
+    }
 }
 
-// The channel at an offset that is known to have its bytes in the slot, with its first field and its format.
-fn channel_at(s: &[u8], at: usize, looping: u16, format: DspFormat) -> Channel
-    requires { ⌜ (at + 56 ≤ length (now s)) × (looping ≡ u16At (now s) at) ⌝ }
-    ensures { λ r. ⌜ r ≡ channelAt (now (s .entry)) at format ⌝ }
+// The fields after the format.
+fn read_addresses_on(s: &[u8], at: usize, looping: u16, format: DspFormat) -> ChannelRead
+    requires { ⌜ (at + 4 ≤ length (now s)) × (looping ≡ u16At (now s) at) ⌝ }
+    ensures { λ r. ⌜ channelSays r ≡ field (now (s .entry)) (at + 56) (channelAt (now (s .entry)) at format) ⌝ }
+    ensures { λ r. ⌜ r .channel ≡ valueOr noChannel (field (now (s .entry)) (at + 56) (channelAt (now (s .entry)) at format)) ⌝ }
 {
-    let loop_address = be32(s, at + 4);
-    let end_address = be32(s, at + 8);
-    let current_address = be32(s, at + 12);
-    let coefficients = coefficients_at(s, at + 16);
-    let gain = be16(s, at + 48);
-    let context = context_at(s, at + 50);
-    Channel {
+    let read = read_u32(s, at + 4);
+    let U32Read::Value(loop_address) = read else {
+        return refused(read.number());
+    };
+    let read = read_u32(s, at + 8);
+    let U32Read::Value(end_address) = read else {
+        return refused(read.number());
+    };
+    let read = read_u32(s, at + 12);
+    let U32Read::Value(current_address) = read else {
+        return refused(read.number());
+    };
+    let read = read_coefficients(s, at + 16);
+    let answer = read.answer;
+    let ReadAnswer::Value = answer else {
+        return refused(answer.number());
+    };
+    let coefficients = read.coefficients;
+    let read = read_u16(s, at + 48);
+    let U16Read::Value(gain) = read else {
+        return refused(read.number());
+    };
+    let read = read_context(s, at + 50);
+    let ContextRead::Value(context) = read else {
+        return refused(read.number());
+    };
+    let answer = ReadAnswer::Value;
+    let channel = Channel {
         looping: looping != 0,
         format,
         loop_address,
@@ -93,27 +133,26 @@ fn channel_at(s: &[u8], at: usize, looping: u16, format: DspFormat) -> Channel
         coefficients,
         gain,
         context,
-    }
+    };
+    ChannelRead { answer, channel }
 }
 
-// The channel at an offset: looping and format, whose bad value is refused before the fields after it are looked for.
+// The channel at an offset, zeros where it is refused: looping and format, whose bad value is refused before the fields after it are looked for.
 pub fn read_channel(s: &[u8], at: usize) -> ChannelRead
-    ensures { λ r. ⌜ r ≡ channelRead (readChannel (now (s .entry)) at) ⌝ }
+    ensures { λ r. ⌜ channelSays r ≡ readChannel (now (s .entry)) at ⌝ }
+    ensures { λ r. ⌜ r .channel ≡ valueOr noChannel (readChannel (now (s .entry)) at) ⌝ }
 {
-    let U16Read::Value(looping) = read_u16(s, at) else {
-        return refused(ChannelAnswer::Short);
+    let read = read_u16(s, at);
+    let U16Read::Value(looping) = read else {
+        return refused(read.number());
     };
-    let U16Read::Value(number) = read_u16(s, at + 2) else {
-        return refused(ChannelAnswer::Short);
+    let read = read_u16(s, at + 2);
+    let U16Read::Value(number) = read else {
+        return refused(read.number());
     };
-    let FormatRead::Value(format) = format_of(number) else {
-        return refused(ChannelAnswer::Unknown);
+    let read = format_of(number);
+    let FormatRead::Value(format) = read else {
+        return refused(read.number());
     };
-    if inside(s.len(), at, 56) {
-        let channel = channel_at(s, at, looping, format);
-        let answer = ChannelAnswer::Value;
-        ChannelRead { answer, channel }
-    } else {
-        refused(ChannelAnswer::Short)
-    }
+    read_addresses_on(s, at, looping, format)
 }

@@ -2,22 +2,20 @@
 use layout::MAGIC;
 use layout::answers::MagicRead;
 ghost use mathlib.Core.Path.{_≡_};
-ghost use lib.ListN.{take};
-ghost use Rattle.layout.specs.Lists.{same};
-ghost use Rattle.layout.specs.Records.{field, magic};
-ghost use Rattle.layout.specs.Answers.{magicRead};
+ghost use Rattle.layout.specs.Records.{readMagic};
+ghost use Rattle.layout.specs.Answers.{magicSays};
 
 pub fn read_magic(s: &[u8]) -> MagicRead
-    ensures { λ r. ⌜ r ≡ magicRead (field (now (s .entry)) 8 (same (take 8 (now (s .entry))) magic)) ⌝ }
+    ensures { λ r. ⌜ magicSays r ≡ readMagic (now (s .entry)) ⌝ }
 {
     if s.len() < 8 {
-        return MagicRead::Short;
+        return MagicRead::Refused(1);
     }
     let bytes = MAGIC;
     let mut i: usize = 0;
     while i < 8 {
         if s[i] != bytes[i] {
-            return MagicRead::Wrong;
+            return MagicRead::Refused(2);
         }
         i += 1;
     }

@@ -1,70 +1,89 @@
--- What the reading calls answer: each enum from what a read gives. The values are those of the read, Short is refusal 1 and Unknown refusal 4.
+-- What the reads answer: for each enum, from its cases, the refusal's number or the value that was read.
+use Prim.{Unit, tt}
 use Prim.Native.Nat.{ℕ}
-use mathlib.Core.Bool.{Bool, true, false}
-use lib.Dec.{eqb}
+use mathlib.Core.List.{List}
 use lib.IntN.{ℤ}
-use Rattle.layout.specs.Choice.{pick}
-use Rattle.layout.specs.Records.{Read, noChannel}
+use Rattle.layout.specs.Records.{Read, on, magic}
 use Rattle.layout.specs.declared.fields.U8Read.{U8Read}
 use Rattle.layout.specs.declared.fields.U16Read.{U16Read}
 use Rattle.layout.specs.declared.fields.U32Read.{U32Read}
 use Rattle.layout.specs.declared.fields.I16Read.{I16Read}
 use Rattle.layout.specs.declared.fields.I32Read.{I32Read}
 use Rattle.layout.specs.declared.FrameContext.{FrameContext}
-use Rattle.layout.specs.declared.answers.ContextRead.{ContextRead}
-use Rattle.layout.specs.declared.CuePoint.{CuePoint}
 use Rattle.layout.specs.declared.BlockHeader.{BlockHeader}
-use Rattle.layout.specs.declared.answers.CueRead.{CueRead}
-use Rattle.layout.specs.declared.answers.HeaderRead.{HeaderRead}
+use Rattle.layout.specs.declared.CuePoint.{CuePoint}
 use Rattle.layout.specs.declared.DspFormat.{DspFormat}
 use Rattle.layout.specs.declared.Channel.{Channel}
+use Rattle.layout.specs.declared.answers.ContextRead.{ContextRead}
+use Rattle.layout.specs.declared.answers.HeaderRead.{HeaderRead}
+use Rattle.layout.specs.declared.answers.CueRead.{CueRead}
 use Rattle.layout.specs.declared.answers.FormatRead.{FormatRead}
-use Rattle.layout.specs.declared.answers.ChannelAnswer.{ChannelAnswer}
+use Rattle.layout.specs.declared.answers.ReadAnswer.{ReadAnswer}
+use Rattle.layout.specs.declared.answers.CoefficientsRead.{CoefficientsRead}
 use Rattle.layout.specs.declared.answers.ChannelRead.{ChannelRead}
 use Rattle.layout.specs.declared.answers.MagicRead.{MagicRead}
 
--- The value, or the answer where it is refused.
-abbrev pub answer : {A B : Type 0} → (A → B) → B → Read A → B
-answer v none (Read.value a) = v a
-answer v none (Read.refused n) = none
+-- ---- The enums
 
-abbrev pub u8Read : Read ℕ → U8Read
-u8Read = answer U8Read.Value U8Read.Short
+abbrev pub u8Says : U8Read → Read ℕ
+u8Says (U8Read.Value x) = Read.value x
+u8Says (U8Read.Refused n) = Read.refused n
 
-abbrev pub u16Read : Read ℕ → U16Read
-u16Read = answer U16Read.Value U16Read.Short
+abbrev pub u16Says : U16Read → Read ℕ
+u16Says (U16Read.Value x) = Read.value x
+u16Says (U16Read.Refused n) = Read.refused n
 
-abbrev pub u32Read : Read ℕ → U32Read
-u32Read = answer U32Read.Value U32Read.Short
+abbrev pub u32Says : U32Read → Read ℕ
+u32Says (U32Read.Value x) = Read.value x
+u32Says (U32Read.Refused n) = Read.refused n
 
-abbrev pub i16Read : Read ℤ → I16Read
-i16Read = answer I16Read.Value I16Read.Short
+abbrev pub i16Says : I16Read → Read ℤ
+i16Says (I16Read.Value x) = Read.value x
+i16Says (I16Read.Refused n) = Read.refused n
 
-abbrev pub i32Read : Read ℤ → I32Read
-i32Read = answer I32Read.Value I32Read.Short
+abbrev pub i32Says : I32Read → Read ℤ
+i32Says (I32Read.Value x) = Read.value x
+i32Says (I32Read.Refused n) = Read.refused n
 
-abbrev pub contextRead : Read FrameContext → ContextRead
-contextRead = answer ContextRead.Value ContextRead.Short
+abbrev pub contextSays : ContextRead → Read FrameContext
+contextSays (ContextRead.Value c) = Read.value c
+contextSays (ContextRead.Refused n) = Read.refused n
 
-abbrev pub headerRead : Read BlockHeader → HeaderRead
-headerRead = answer HeaderRead.Value HeaderRead.Short
+abbrev pub headerSays : HeaderRead → Read BlockHeader
+headerSays (HeaderRead.Value h) = Read.value h
+headerSays (HeaderRead.Refused n) = Read.refused n
 
-abbrev pub cueRead : Read CuePoint → CueRead
-cueRead = answer CueRead.Value CueRead.Short
+abbrev pub cueSays : CueRead → Read CuePoint
+cueSays (CueRead.Value c) = Read.value c
+cueSays (CueRead.Refused n) = Read.refused n
 
-abbrev pub formatRead : Read DspFormat → FormatRead
-formatRead = answer FormatRead.Value FormatRead.Unknown
+abbrev pub formatSays : FormatRead → Read DspFormat
+formatSays (FormatRead.Value f) = Read.value f
+formatSays (FormatRead.Refused n) = Read.refused n
 
--- No channel, with the answer that says why.
-abbrev pub channelRefused : ChannelAnswer → ChannelRead
-channelRefused a = record { answer = a; channel = noChannel }
+abbrev pub magicSays : MagicRead → Read (List ℕ)
+magicSays MagicRead.Right = Read.value magic
+magicSays (MagicRead.Refused n) = Read.refused n
 
--- Beside the answer the channel, zeros where it is refused.
-abbrev pub channelRead : Read Channel → ChannelRead
-channelRead (Read.value c) = record { answer = ChannelAnswer.Value; channel = c }
-channelRead (Read.refused n) = channelRefused (pick (eqb n 1) ChannelAnswer.Short ChannelAnswer.Unknown)
+-- Of an answer whose value stands beside it.
+abbrev pub answerSays : ReadAnswer → Read (Unit {0})
+answerSays ReadAnswer.Value = Read.value tt
+answerSays (ReadAnswer.Refused n) = Read.refused n
 
--- Are the first 8 bytes right? Wrong is refusal 2.
-abbrev pub magicRead : Read Bool → MagicRead
-magicRead (Read.value b) = pick b MagicRead.Right MagicRead.Wrong
-magicRead (Read.refused n) = MagicRead.Short
+abbrev pub coefficientsSays : CoefficientsRead → Read (List ℤ)
+coefficientsSays r = on (answerSays (r .answer)) Read.refused (λ t. Read.value (r .coefficients))
+
+abbrev pub channelSays : ChannelRead → Read Channel
+channelSays r = on (answerSays (r .answer)) Read.refused (λ t. Read.value (r .channel))
+
+-- ---- Handing on
+
+-- The number of a refused read, 0 of a value.
+abbrev pub numberOf : {A : Type 0} → Read A → ℕ
+numberOf (Read.refused n) = n
+numberOf (Read.value a) = 0
+
+-- The value of a read, or this where it is refused.
+abbrev pub valueOr : {A : Type 0} → A → Read A → A
+valueOr none (Read.refused n) = none
+valueOr none (Read.value a) = a

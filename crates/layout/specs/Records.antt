@@ -2,13 +2,13 @@
 use Prim.Native.Nat.{ℕ, zero, suc, _+_, _-_, _*_, _/_, _%_}
 use mathlib.Core.Bool.{not, false}
 use mathlib.Core.List.{List, [], _∷_, _++_}
-use lib.ListN.{length, getD, replicate}
+use lib.ListN.{length, getD, take, replicate}
 use lib.Dec.{ltb, leb, eqb}
 use lib.IntN.{ℤ, pos, negsuc}
 use mir.Syntax.{w16, w32}
 use mir.Val.{ofZ, toZ}
 use Rattle.layout.specs.Choice.{pick}
-use Rattle.layout.specs.Lists.{sum, concat}
+use Rattle.layout.specs.Lists.{sum, concat, same}
 use Rattle.layout.specs.declared.FrameContext.{FrameContext}
 use Rattle.layout.specs.declared.DspFormat.{DspFormat}
 use Rattle.layout.specs.declared.DspFormat.the-variants.{Adpcm, Pcm16, Pcm8}
@@ -118,6 +118,12 @@ noChannel = record { looping = false; format = Adpcm; «loop_address» = 0; «en
 -- "8 bytes space, `HALPST`, zero"
 abbrev pub magic : List ℕ
 magic = 32 ∷ 72 ∷ 65 ∷ 76 ∷ 80 ∷ 83 ∷ 84 ∷ 0 ∷ []
+
+-- The same, read; "2 first 8 bytes wrong"
+unfoldable pub readMagic : List ℕ → Read (List ℕ)
+readMagic s =
+    on (field s 8 (take 8 s)) refused (λ bytes.
+    pick (same bytes magic) (value magic) (refused 2))
 
 -- "File header, 128 bytes: 8 bytes space, `HALPST`, zero; u32 rate; u32 channel count; two channels of 56 bytes." (Read in "Opening and reading".)
 unfoldable pub fileHeaderBytes : (rate count : ℕ) → Channel → Channel → List ℕ

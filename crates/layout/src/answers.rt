@@ -1,44 +1,115 @@
-// What the reads of records answer: the value, or that the slot ends early, the format is unknown, the magic is wrong.
+// What the reads of records answer: the value, or the number of the refusal (1 the slot ends early, 2 the magic is wrong, 4 the format is unknown).
 use crate::BlockHeader;
 use crate::Channel;
 use crate::CuePoint;
 use crate::DspFormat;
 use crate::FrameContext;
+ghost use mathlib.Core.Path.{_≡_};
+ghost use Rattle.layout.specs.Answers.{numberOf, contextSays, headerSays, cueSays, formatSays, answerSays, magicSays};
 
 pub enum ContextRead {
     Value(FrameContext),
-    Short,
+    Refused(u32),
+}
+
+impl ContextRead {
+    pub fn number(self) -> u32
+        ensures { λ n. ⌜ n ≡ numberOf (contextSays self) ⌝ }
+    {
+        match self {
+            ContextRead::Value(_) => 0,
+            ContextRead::Refused(n) => n,
+        }
+    }
 }
 
 pub enum HeaderRead {
     Value(BlockHeader),
-    Short,
+    Refused(u32),
+}
+
+impl HeaderRead {
+    pub fn number(self) -> u32
+        ensures { λ n. ⌜ n ≡ numberOf (headerSays self) ⌝ }
+    {
+        match self {
+            HeaderRead::Value(_) => 0,
+            HeaderRead::Refused(n) => n,
+        }
+    }
 }
 
 pub enum CueRead {
     Value(CuePoint),
-    Short,
+    Refused(u32),
+}
+
+impl CueRead {
+    pub fn number(self) -> u32
+        ensures { λ n. ⌜ n ≡ numberOf (cueSays self) ⌝ }
+    {
+        match self {
+            CueRead::Value(_) => 0,
+            CueRead::Refused(n) => n,
+        }
+    }
 }
 
 pub enum FormatRead {
     Value(DspFormat),
-    Unknown,
+    Refused(u32),
 }
 
-// What a channel's read comes to. The channel stands beside it, since an enum holds no array.
-pub enum ChannelAnswer {
+impl FormatRead {
+    pub fn number(self) -> u32
+        ensures { λ n. ⌜ n ≡ numberOf (formatSays self) ⌝ }
+    {
+        match self {
+            FormatRead::Value(_) => 0,
+            FormatRead::Refused(n) => n,
+        }
+    }
+}
+
+// What a read comes to whose value stands beside it, since an enum holds no array.
+pub enum ReadAnswer {
     Value,
-    Short,
-    Unknown,
+    Refused(u32),
+}
+
+impl ReadAnswer {
+    pub fn number(self) -> u32
+        ensures { λ n. ⌜ n ≡ numberOf (answerSays self) ⌝ }
+    {
+        match self {
+            ReadAnswer::Value => 0,
+            ReadAnswer::Refused(n) => n,
+        }
+    }
+}
+
+pub struct CoefficientsRead {
+    pub answer: ReadAnswer,
+    pub coefficients: [i16; 16],
 }
 
 pub struct ChannelRead {
-    pub answer: ChannelAnswer,
+    pub answer: ReadAnswer,
     pub channel: Channel,
 }
 
 pub enum MagicRead {
     Right,
-    Wrong,
-    Short,
+    Refused(u32),
+}
+
+impl MagicRead {
+    pub fn number(self) -> u32
+        ensures { λ n. ⌜ n ≡ numberOf (magicSays self) ⌝ }
+    {
+        match self {
+            MagicRead::Right => 0,
+            MagicRead::Refused(n) => n,
+        }
+    }
 }

@@ -1,4 +1,5 @@
-// Big-endian fields, read at an offset of a slot: the value, or Short where the field is not wholly in the slot.
+// Big-endian fields, read at an offset of a slot: the value, or refused with 1 where the field is not wholly in the slot. An enum's number is its refusal's
+// number, 0 of a value.
 ghost use mathlib.Core.Path.{_≡_};
 ghost use Prim.Native.Nat.{_+_, _≤_};
 ghost use lib.ListN.{length, getD};
@@ -6,31 +7,86 @@ ghost use lib.Dec.{leb};
 ghost use mir.Syntax.{w16, w32};
 ghost use mir.Val.{toZ};
 ghost use Rattle.layout.specs.Records.{u16At, u32At, i16At, field};
-ghost use Rattle.layout.specs.Answers.{u8Read, u16Read, u32Read, i16Read, i32Read};
+ghost use Rattle.layout.specs.Answers.{numberOf, u8Says, u16Says, u32Says, i16Says, i32Says};
 
 pub enum U8Read {
     Value(u8),
-    Short,
+    Refused(u32),
+}
+
+impl U8Read {
+    pub fn number(self) -> u32
+        ensures { λ n. ⌜ n ≡ numberOf (u8Says self) ⌝ }
+    {
+        match self {
+            U8Read::Value(_) => 0,
+            U8Read::Refused(n) => n,
+        }
+    }
 }
 
 pub enum U16Read {
     Value(u16),
-    Short,
+    Refused(u32),
+}
+
+impl U16Read {
+    pub fn number(self) -> u32
+        ensures { λ n. ⌜ n ≡ numberOf (u16Says self) ⌝ }
+    {
+        match self {
+            U16Read::Value(_) => 0,
+            U16Read::Refused(n) => n,
+        }
+    }
 }
 
 pub enum U32Read {
     Value(u32),
-    Short,
+    Refused(u32),
+}
+
+impl U32Read {
+    pub fn number(self) -> u32
+        ensures { λ n. ⌜ n ≡ numberOf (u32Says self) ⌝ }
+    {
+        match self {
+            U32Read::Value(_) => 0,
+            U32Read::Refused(n) => n,
+        }
+    }
 }
 
 pub enum I16Read {
     Value(i16),
-    Short,
+    Refused(u32),
+}
+
+impl I16Read {
+    pub fn number(self) -> u32
+        ensures { λ n. ⌜ n ≡ numberOf (i16Says self) ⌝ }
+    {
+        match self {
+            I16Read::Value(_) => 0,
+            I16Read::Refused(n) => n,
+        }
+    }
 }
 
 pub enum I32Read {
     Value(i32),
-    Short,
+    Refused(u32),
+}
+
+impl I32Read {
+    pub fn number(self) -> u32
+        ensures { λ n. ⌜ n ≡ numberOf (i32Says self) ⌝ }
+    {
+        match self {
+            I32Read::Value(_) => 0,
+            I32Read::Refused(n) => n,
+        }
+    }
 }
 
 // Whether n bytes from at on lie in a slot of this length.
@@ -85,51 +141,51 @@ fn signed32(x: u32) -> i32
 }
 
 pub fn read_u8(s: &[u8], at: usize) -> U8Read
-    ensures { λ r. ⌜ r ≡ u8Read (field (now (s .entry)) (at + 1) (getD (now (s .entry)) at 0)) ⌝ }
+    ensures { λ r. ⌜ u8Says r ≡ field (now (s .entry)) (at + 1) (getD (now (s .entry)) at 0) ⌝ }
 {
     if at < s.len() {
         U8Read::Value(s[at])
     } else {
-        U8Read::Short
+        U8Read::Refused(1)
     }
 }
 
 pub fn read_u16(s: &[u8], at: usize) -> U16Read
-    ensures { λ r. ⌜ r ≡ u16Read (field (now (s .entry)) (at + 2) (u16At (now (s .entry)) at)) ⌝ }
+    ensures { λ r. ⌜ u16Says r ≡ field (now (s .entry)) (at + 2) (u16At (now (s .entry)) at) ⌝ }
 {
     if inside(s.len(), at, 2) {
         U16Read::Value(be16(s, at))
     } else {
-        U16Read::Short
+        U16Read::Refused(1)
     }
 }
 
 pub fn read_u32(s: &[u8], at: usize) -> U32Read
-    ensures { λ r. ⌜ r ≡ u32Read (field (now (s .entry)) (at + 4) (u32At (now (s .entry)) at)) ⌝ }
+    ensures { λ r. ⌜ u32Says r ≡ field (now (s .entry)) (at + 4) (u32At (now (s .entry)) at) ⌝ }
 {
     if inside(s.len(), at, 4) {
         U32Read::Value(be32(s, at))
     } else {
-        U32Read::Short
+        U32Read::Refused(1)
     }
 }
 
 pub fn read_i16(s: &[u8], at: usize) -> I16Read
-    ensures { λ r. ⌜ r ≡ i16Read (field (now (s .entry)) (at + 2) (i16At (now (s .entry)) at)) ⌝ }
+    ensures { λ r. ⌜ i16Says r ≡ field (now (s .entry)) (at + 2) (i16At (now (s .entry)) at) ⌝ }
 {
     if inside(s.len(), at, 2) {
         I16Read::Value(signed16(be16(s, at)))
     } else {
-        I16Read::Short
+        I16Read::Refused(1)
     }
 }
 
 pub fn read_i32(s: &[u8], at: usize) -> I32Read
-    ensures { λ r. ⌜ r ≡ i32Read (field (now (s .entry)) (at + 4) (toZ w32 (u32At (now (s .entry)) at))) ⌝ }
+    ensures { λ r. ⌜ i32Says r ≡ field (now (s .entry)) (at + 4) (toZ w32 (u32At (now (s .entry)) at)) ⌝ }
 {
     if inside(s.len(), at, 4) {
         I32Read::Value(signed32(be32(s, at)))
     } else {
-        I32Read::Short
+        I32Read::Refused(1)
     }
 }

@@ -1,24 +1,17 @@
 -- Opening field by field: what is still to be done after each read, and what a refused one comes to.
 use Prim.Native.Nat.{ℕ, _+_, _-_, _≤_, _<_}
 use mathlib.Core.Path.{_≡_, refl, sym, ap, _∙_}
-use mathlib.Core.Bool.{Bool, true, false, not}
+use mathlib.Core.Bool.{Bool, true, false}
 use mathlib.Core.List.{List, [], _∷_}
 use native.Mathlib.Omega.{arith}
-use lib.ListN.{length, take}
-use lib.Dec.{leb, eqb}
-use borrow.Author.Tests.{lt-ltb, le-ltb, leb-true, leb-false}
+use lib.ListN.{length}
+use borrow.Author.Tests.{lt-ltb, le-ltb}
 use Rattle.layout.specs.Choice.{pick}
-use Rattle.layout.specs.Lists.{same}
-use Rattle.layout.specs.Records.{u16At, u32At, Read, field, on, formatOf, channelAt, readChannel, noChannel, magic}
+use Rattle.layout.specs.Records.{u32At, Read, field, on, readChannel, noChannel, magic, readMagic}
 use Rattle.layout.specs.Refusals.{wrongCount, blockLimit, slotLimit}
-use Rattle.layout.specs.Answers.{channelRead, magicRead}
-use Rattle.layout.specs.declared.DspFormat.{DspFormat}
+use Rattle.layout.specs.Answers.{numberOf, magicSays}
 use Rattle.layout.specs.declared.Channel.{Channel}
-use Rattle.layout.specs.declared.answers.ChannelAnswer.{ChannelAnswer}
-use Rattle.layout.specs.declared.answers.ChannelRead.{ChannelRead}
 use Rattle.layout.specs.declared.answers.MagicRead.{MagicRead}
-use Rattle.layout.proofs.Cases.{by-cases}
-use Rattle.layout.proofs.FieldLaws.{field-inside, field-past}
 use Rattle.reader.specs.declared.LoopStart.{LoopStart}
 use Rattle.reader.specs.declared.LoopStart.the-variants.{None, Block}
 use Rattle.reader.specs.declared.HpsReader.{HpsReader}
@@ -27,7 +20,7 @@ use Rattle.reader.specs.declared.answers.OpenCall.{OpenCall}
 use Rattle.reader.specs.declared.answers.WalkReply.{WalkReply}
 use Rattle.reader.specs.declared.answers.Walk.{Walk}
 use Rattle.reader.specs.OpeningAndReading.{Walked, refused, walked, walkFrom, Opened, onWalk, made, opening}
-use Rattle.reader.specs.ReaderAnswers.{openCall, filled, noWalk, walkReply, walkOf, inUse, magicNumber, channelNumber}
+use Rattle.reader.specs.ReaderAnswers.{openCall, filled, noWalk, walkReply, walkOf, inUse}
 
 -- ---- What is still to be done
 
@@ -51,7 +44,7 @@ module _ (s : List ℕ) where
   atRate = on (field s 12 (u32At s 8)) Opened.refused (λ rate. atCount rate)
 
   abbrev pub atMagic : Opened
-  atMagic = on (field s 8 (same (take 8 s) magic)) Opened.refused (λ m. pick (not m) (Opened.refused 2) atRate)
+  atMagic = on (readMagic s) Opened.refused (λ right. atRate)
 
   pub too-long : slotLimit < length s → opening s ≡ Opened.refused 7
   unfolding opening
@@ -78,62 +71,13 @@ pick-true x y e = rw e
 pub pick-false : {b : Bool} (x y : Opened) → b ≡ false → pick b x y ≡ y
 pick-false x y e = rw e
 
--- ---- The magic
+-- the magic
+module _ {q : Read (List ℕ)} {r : MagicRead} (e : magicSays r ≡ q) where
+  pub magic-right : r ≡ MagicRead.Right → q ≡ Read.value magic
+  magic-right f = sym e ∙ ap magicSays f
 
-field-cases : {A C : Type 0} (s : List ℕ) (past : ℕ) (a : A) → (field s past a ≡ Read.value a → C) → (field s past a ≡ Read.refused 1 → C) → C
-field-cases s past a f g =
-    by-cases (leb past (length s))
-    (λ t. f (field-inside s past a (leb-true past (length s) t)))
-    (λ t. g (field-past s past a (leb-false past (length s) t)))
-
--- of a read that gives a test
-module _ (s : List ℕ) (past : ℕ) (b : Bool) (rest : Opened) {m : MagicRead} (e : m ≡ magicRead (field s past b)) where
-  abbrev tested : Opened
-  tested = on (field s past b) Opened.refused (λ t. pick (not t) (Opened.refused 2) rest)
-
-  pub magic-right : m ≡ MagicRead.Right → tested ≡ rest
-  magic-right f =
-      field-cases s past b
-      (λ t. by-cases b (λ u. rw (t, u)) (λ u. let k = sym (rw (t, u) at e) ∙ f in absurd (let z : _≡_ {A = ℕ} 0 1 = cc in omega arith)))
-      (λ t. let k = sym (rw t at e) ∙ f in absurd (let z : _≡_ {A = ℕ} 0 1 = cc in omega arith))
-
-  pub magic-wrong : (m ≡ MagicRead.Right → ⊥) → tested ≡ Opened.refused (magicNumber m)
-  magic-wrong f =
-      field-cases s past b
-      (λ t. by-cases b (λ u. absurd (f (rw (t, u) at e))) (λ u. let k = rw (t, u) at e in rw (t, u, k)))
-      (λ t. let k = rw t at e in rw (t, k))
-
--- ---- A channel
-
--- a refused channel's number
-refusals : (s : List ℕ) (at : ℕ) → (C : Type 0) → ((c : Channel) → readChannel s at ≡ Read.value c → C) → (readChannel s at ≡ Read.refused 1 → C) → (readChannel s at ≡ Read.refused 4 → C) → C
-unfolding readChannel
-refusals s at C f g h =
-    field-cases s (at + 4) (u16At s (at + 2))
-    (λ t.
-    let n = u16At s (at + 2) in
-    let known : (k : DspFormat) → formatOf n ≡ Read.value k → C =
-    λ k e. field-cases s (at + 56) (channelAt s at k) (λ u. f (channelAt s at k) (rw (t, e) u)) (λ u. g (rw (t, e) u)) in
-    by-cases (eqb n 0) (λ x. known DspFormat.Adpcm (rw x)) (λ x.
-    by-cases (eqb n 10) (λ y. known DspFormat.Pcm16 (rw (x, y))) (λ y.
-    by-cases (eqb n 25) (λ z. known DspFormat.Pcm8 (rw (x, y, z))) (λ z.
-    h (rw (t, x, y, z))))))
-    (λ t. g (rw t))
-
-module _ (s : List ℕ) (at : ℕ) {q : ChannelRead} (e : q ≡ channelRead (readChannel s at)) where
-  pub channel-read : q .answer ≡ ChannelAnswer.Value → readChannel s at ≡ Read.value (q .channel)
-  channel-read f =
-      refusals s at (readChannel s at ≡ Read.value (q .channel))
-      (λ c t. let k = rw t at e in rw (t, k))
-      (λ t. let k = rw t at e in let l = sym (ap (λ (x : ChannelRead). x .answer) k) ∙ f in absurd (let z : _≡_ {A = ℕ} 0 1 = cc in omega arith))
-      (λ t. let k = rw t at e in let l = sym (ap (λ (x : ChannelRead). x .answer) k) ∙ f in absurd (let z : _≡_ {A = ℕ} 0 1 = cc in omega arith))
-
-  pub channel-refused : (q .answer ≡ ChannelAnswer.Value → ⊥) → readChannel s at ≡ Read.refused (channelNumber (q .answer))
-  channel-refused f =
-      refusals s at (readChannel s at ≡ Read.refused (channelNumber (q .answer)))
-      (λ c t. let k = rw t at e in absurd (f (ap (λ (x : ChannelRead). x .answer) k)))
-      (λ t. let k = rw t at e in rw (t, k))
-      (λ t. let k = rw t at e in rw (t, k))
+  pub magic-refused : {n m : ℕ} → r ≡ MagicRead.Refused n → m ≡ numberOf (magicSays r) → q ≡ Read.refused m
+  magic-refused f g = sym e ∙ rw (f, g, f)
 
 -- ---- The walk
 

@@ -3,8 +3,8 @@ use header_records::channels::no_channel;
 use header_records::channels::read_channel;
 use header_records::file::read_magic;
 use layout::Channel;
-use layout::answers::ChannelAnswer;
 use layout::answers::MagicRead;
+use layout::answers::ReadAnswer;
 use layout::fields::U32Read;
 use layout::fields::read_u32;
 use reader::BLOCK_LIMIT;
@@ -18,7 +18,7 @@ use walk::walk_blocks;
 ghost use mathlib.Core.Path.{_≡_};
 ghost use Rattle.layout.specs.Refusals.{wrongCount};
 ghost use Rattle.reader.specs.OpeningAndReading.{Opened, opening, Readable};
-ghost use Rattle.reader.specs.ReaderAnswers.{noReader, openCall, magicNumber, channelNumber, inUse};
+ghost use Rattle.reader.specs.ReaderAnswers.{noReader, openCall, inUse};
 
 fn no_reader() -> HpsReader
     ensures { λ r. ⌜ r ≡ noReader ⌝ }
@@ -43,26 +43,6 @@ fn refused(number: u32) -> OpenCall
     let reply = OpenReply::Refused(number);
     let reader = no_reader();
     OpenCall { reply, reader }
-}
-
-fn magic_number(magic: MagicRead) -> u32
-    ensures { λ n. ⌜ n ≡ magicNumber magic ⌝ }
-{
-    match magic {
-        MagicRead::Right => 0,
-        MagicRead::Wrong => 2,
-        MagicRead::Short => 1,
-    }
-}
-
-fn channel_number(answer: ChannelAnswer) -> u32
-    ensures { λ n. ⌜ n ≡ channelNumber answer ⌝ }
-{
-    match answer {
-        ChannelAnswer::Value => 0,
-        ChannelAnswer::Short => 1,
-        ChannelAnswer::Unknown => 4,
-    }
 }
 
 fn wrong_count(count: u32) -> bool
@@ -92,28 +72,30 @@ pub fn open(s: &[u8]) -> OpenCall
     if s.len() > SLOT_LIMIT {
         return refused(7);
     }
-    let magic = read_magic(s);
-    let MagicRead::Right = magic else {
-        return refused(magic_number(magic));
+    let read = read_magic(s);
+    let MagicRead::Right = read else {
+        return refused(read.number());
     };
-    let U32Read::Value(rate) = read_u32(s, 8) else {
-        return refused(1);
+    let read = read_u32(s, 8);
+    let U32Read::Value(rate) = read else {
+        return refused(read.number());
     };
-    let U32Read::Value(count) = read_u32(s, 12) else {
-        return refused(1);
+    let read = read_u32(s, 12);
+    let U32Read::Value(count) = read else {
+        return refused(read.number());
     };
     if wrong_count(count) {
         return refused(3);
     }
     let left = read_channel(s, 16);
     let answer = left.answer;
-    let ChannelAnswer::Value = answer else {
-        return refused(channel_number(answer));
+    let ReadAnswer::Value = answer else {
+        return refused(answer.number());
     };
     let right = read_channel(s, 72);
     let answer = right.answer;
-    let ChannelAnswer::Value = answer else {
-        return refused(channel_number(answer));
+    let ReadAnswer::Value = answer else {
+        return refused(answer.number());
     };
     let walk = walk_blocks(s);
     let end = walk.reply;

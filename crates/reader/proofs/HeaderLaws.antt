@@ -7,20 +7,19 @@ use lib.ListN.{length, getD}
 use lib.Dec.{leb}
 use borrow.Author.Tests.{leb-true, leb-false}
 use Rattle.layout.specs.Records.{P, Read, headerAt, readHeader}
-use Rattle.layout.specs.Answers.{headerRead}
+use Rattle.layout.specs.Answers.{numberOf, headerSays}
 use Rattle.layout.specs.declared.BlockHeader.{BlockHeader}
 use Rattle.layout.specs.declared.answers.HeaderRead.{HeaderRead}
 use Rattle.layout.proofs.Cases.{by-cases}
-use Rattle.layout.proofs.FieldLaws.{field-inside, field-past, field-value, value-read, short}
-use Rattle.records.proofs.ReadLaws.{header}
+use Rattle.layout.proofs.FieldLaws.{field-inside, field-past, field-value, header, value-read, number-read}
 
-module _ (s : List ℕ) (o : ℕ) {q : HeaderRead} (e : q ≡ headerRead (readHeader s o)) where
+module _ (s : List ℕ) (o : ℕ) {q : HeaderRead} (e : headerSays q ≡ readHeader s o) where
   pub header-got : {h : BlockHeader} → q ≡ HeaderRead.Value h → readHeader s o ≡ Read.value h
-  header-got f = value-read header (readHeader s o) e f
+  header-got f = value-read header e f
 
-  pub header-short : q ≡ HeaderRead.Short → readHeader s o ≡ Read.refused 1
-  unfolding readHeader
-  header-short f = short header {s = s} {a = headerAt s o} e f .is
+  -- refused, with the number that is handed on
+  pub header-refused : {n m : ℕ} → q ≡ HeaderRead.Refused n → m ≡ numberOf (headerSays q) → readHeader s o ≡ Read.refused m
+  header-refused f g = number-read header e f g
 
 -- it is the one at the offset
 pub header-is : (s : List ℕ) (o : ℕ) {h : BlockHeader} → readHeader s o ≡ Read.value h → h ≡ headerAt s o

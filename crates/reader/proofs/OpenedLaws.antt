@@ -1,16 +1,15 @@
 -- An opening taken apart, and what holds of every record that it gives.
 use Prim.Native.Nat.{ℕ, zero, suc, _+_, _≤_}
 use mathlib.Core.Path.{_≡_, refl, sym, ap, _∙_}
-use mathlib.Core.Bool.{Bool, true, false, not}
+use mathlib.Core.Bool.{Bool, true, false}
 use mathlib.Core.List.{List, [], _∷_, _++_}
 use mathlib.Core.Logic.{_⊎_, inl, inr, ⊎-elim}
 use native.Mathlib.Omega.{arith}
-use lib.ListN.{length, take, length-append}
+use lib.ListN.{length, length-append}
 use lib.Dec.{ltb, eqb}
 use borrow.Author.Tests.{eqb-true, not-false}
 use Rattle.layout.specs.Choice.{pick, _or_}
-use Rattle.layout.specs.Lists.{same}
-use Rattle.layout.specs.Records.{Read, on, field, u32At, readChannel, magic}
+use Rattle.layout.specs.Records.{Read, on, field, u32At, readChannel, readMagic}
 use Rattle.layout.specs.Refusals.{wrongCount, slotLimit}
 use Rattle.layout.specs.declared.Channel.{Channel}
 use Rattle.layout.proofs.Cases.{by-cases}
@@ -62,9 +61,8 @@ pub opened-parts : (s : List ℕ) (r : HpsReader) → opening s ≡ Opened.opene
 unfolding opening
 opened-parts s r e =
     let a = past-test (ltb slotLimit (length s)) 7 e in
-    let b = past-read (field s 8 (same (take 8 s) magic)) (a .1) in
-    let c = past-test (not (b .0)) 2 (b .2) in
-    let d = past-read (field s 12 (u32At s 8)) (c .1) in
+    let b = past-read (readMagic s) (a .1) in
+    let d = past-read (field s 12 (u32At s 8)) (b .2) in
     let f = past-read (field s 16 (u32At s 12)) (d .2) in
     let g = past-test (wrongCount (f .0)) 3 (f .2) in
     let l = past-read (readChannel s 16) (g .1) in

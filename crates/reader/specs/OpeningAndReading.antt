@@ -1,13 +1,12 @@
 -- Opening and reading (document 01): opening, block read, addresses remaining.
 use Prim.Native.Nat.{ℕ, zero, suc, _+_, _-_, _*_, _≤_}
-use mathlib.Core.Bool.{not}
 use mathlib.Core.List.{List, [], _∷_, _++_}
 use lib.ListN.{length, take, drop, getD, replicate}
 use lib.Dec.{ltb, leb, eqb}
 use lib.IntN.{ℤ}
 use Rattle.layout.specs.Choice.{pick}
-use Rattle.layout.specs.Lists.{same, firstIndex}
-use Rattle.layout.specs.Records.{u32At, Read, field, on, P, readChannel, noChannel, magic, firstBlockOffset, endBlockOffset, readHeader, lengthIn, addressToByteUp}
+use Rattle.layout.specs.Lists.{firstIndex}
+use Rattle.layout.specs.Records.{u32At, Read, field, on, P, readChannel, noChannel, readMagic, firstBlockOffset, endBlockOffset, readHeader, lengthIn, addressToByteUp}
 use Rattle.layout.specs.Refusals.{wrongCount, blockLimit, slotLimit}
 use Rattle.layout.specs.declared.FrameContext.{FrameContext}
 use Rattle.layout.specs.declared.DspFormat.{DspFormat}
@@ -59,15 +58,14 @@ made rate count l r os start =
 unfoldable pub opening : List ℕ → Opened
 opening s =
     pick (ltb slotLimit (length s)) (Opened.refused 7)
-    (on (field s 8 (same (take 8 s) magic)) Opened.refused (λ m.
-    pick (not m) (Opened.refused 2)
-    (on (field s 12 (u32At s 8)) Opened.refused (λ rate.
+    (on (readMagic s) Opened.refused (λ right.
+    on (field s 12 (u32At s 8)) Opened.refused (λ rate.
     on (field s 16 (u32At s 12)) Opened.refused (λ count.
     pick (wrongCount count) (Opened.refused 3)
     (on (readChannel s 16) Opened.refused (λ l.
     on (readChannel s 72) Opened.refused (λ r.
     onWalk (walkFrom blockLimit s [] firstBlockOffset) (λ os start.
-    Opened.opened (made rate count l r os start))))))))))
+    Opened.opened (made rate count l r os start)))))))))
 
 -- "what holds of all such records may be a premise on them": of every record that an opening gives
 pub record Readable (r : HpsReader) : Type 0 where

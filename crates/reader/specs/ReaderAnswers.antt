@@ -7,10 +7,6 @@ use Rattle.layout.specs.Choice.{pick}
 use Rattle.layout.specs.Records.{noChannel}
 use Rattle.layout.specs.Refusals.{blockLimit}
 use Rattle.layout.specs.declared.Channel.{Channel}
-use Rattle.layout.specs.declared.answers.MagicRead.{MagicRead}
-use Rattle.layout.specs.declared.answers.MagicRead.the-variants.{Right, Wrong, Short}
-use Rattle.layout.specs.declared.answers.ChannelAnswer.{ChannelAnswer}
-use Rattle.layout.specs.declared.answers.ChannelAnswer.the-variants as C
 use Rattle.reader.specs.declared.LoopStart.{LoopStart}
 use Rattle.reader.specs.declared.LoopStart.the-variants.{None, Block}
 use Rattle.reader.specs.declared.HpsReader.{HpsReader}
@@ -30,17 +26,6 @@ noReader =
 abbrev pub openCall : Opened → OpenCall
 openCall (Opened.refused n) = record { reply = OpenReply.Refused n; reader = noReader }
 openCall (Opened.opened r) = record { reply = OpenReply.Opened; reader = r }
-
--- The numbers of the refused reads: "1 slot ends early; 2 first 8 bytes wrong", "4 format unknown".
-abbrev pub magicNumber : MagicRead → ℕ
-magicNumber Right = 0
-magicNumber Wrong = 2
-magicNumber Short = 1
-
-abbrev pub channelNumber : ChannelAnswer → ℕ
-channelNumber C.Value = 0
-channelNumber C.Short = 1
-channelNumber C.Unknown = 4
 
 -- "channels in use (zeros beyond)"
 abbrev pub inUse : (count : ℕ) → Channel → Channel → List Channel

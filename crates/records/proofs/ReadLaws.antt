@@ -5,58 +5,50 @@ use mathlib.Core.List.{List}
 use native.Mathlib.Omega.{arith}
 use lib.ListN.{length, getD}
 use lib.IntN.{ℤ}
-use mir.Syntax.{w32}
+use mir.Syntax.{w16, w32}
 use mir.Val.{SFits, ofZ, toZ}
 use mir.Facts.{toZ-ofZ}
-use Rattle.layout.specs.Records.{P, Read, field, u32At, headerAt, readHeader, cueAt}
-use Rattle.layout.specs.Answers.{headerRead, cueRead}
+use Rattle.layout.specs.Records.{P, Read, field, u16At, u32At, i16At, contextAt, headerAt, readHeader, cueAt}
+use Rattle.layout.specs.declared.FrameContext.{FrameContext}
 use Rattle.layout.specs.declared.BlockHeader.{BlockHeader}
-use Rattle.layout.specs.declared.answers.ContextRead.{ContextRead}
-use Rattle.layout.specs.declared.answers.CueRead.{CueRead}
-use Rattle.layout.specs.declared.answers.HeaderRead.{HeaderRead}
-use Rattle.layout.proofs.FieldLaws.{Got, Answers, answer-in, answer-out}
-
--- ---- Answers
-
-pub context : Answers ContextRead.Value ContextRead.Short
-context = record { apart = λ a e. (let z : _≡_ {A = ℕ} 0 1 = cc in omega arith); same = λ a b e. cc }
-
-pub header : Answers HeaderRead.Value HeaderRead.Short
-header = record { apart = λ a e. (let z : _≡_ {A = ℕ} 0 1 = cc in omega arith); same = λ a b e. cc }
-
-pub cue : Answers CueRead.Value CueRead.Short
-cue = record { apart = λ a e. (let z : _≡_ {A = ℕ} 0 1 = cc in omega arith); same = λ a b e. cc }
-
--- ---- A cue
-
-pub cue-made : (s : List ℕ) (at : ℕ) {x : ℤ} {n : ℕ} → Got s (at + 4) (toZ w32 (u32At s at)) x → Got s (at + 4 + 4) (u32At s (at + 4)) n → SFits w32 x
-    → CueRead.Value (record { «sample_index» = toZ w32 (ofZ w32 x); id = n }) ≡ cueRead (field s (at + 8) (cueAt s at))
-unfolding cueAt
-cue-made s at f g fx =
-    answer-in CueRead.Value CueRead.Short s (at + 8) (cueAt s at) (omega (arith, g .inside)) (rw (toZ-ofZ fx, f .is, g .is))
-
--- ---- A header
-
--- "filled up to a multiple of 4 cues": as the code counts it
-filled : (n : ℕ) → (n + 3) / 4 * 32 ≡ P (8 * n)
-unfolding P
-filled n = omega arith
+use Rattle.layout.specs.declared.CuePoint.{CuePoint}
+use Rattle.layout.proofs.FieldLaws.{Got, Missed, field-later, answer-in, answer-out}
 
 module _ (s : List ℕ) (at : ℕ) where
-  pub header-out : length s < at + 32 → HeaderRead.Short ≡ headerRead (readHeader s at)
-  unfolding readHeader
-  header-out h = answer-out HeaderRead.Value HeaderRead.Short s (at + (32 + P (8 * getD s (at + 28) 0))) (headerAt s at) (omega arith)
+  -- ---- A context
 
-  pub cues-out : {n : ℕ} → Got s (at + 28 + 1) (getD s (at + 28) 0) n → length s < at + (32 + (n + 3) / 4 * 32) → HeaderRead.Short ≡ headerRead (readHeader s at)
-  unfolding readHeader
-  cues-out {n} g h =
-      answer-out HeaderRead.Value HeaderRead.Short s (at + (32 + P (8 * getD s (at + 28) 0))) (headerAt s at) (rw (← (g .is)) (omega (arith, filled n)))
+  pub context-made : {p : ℕ} {x y : ℤ} → Got s (at + 2) (u16At s at) p → Got s (at + 2 + 2) (i16At s (at + 2)) x → Got s (at + 4 + 2) (i16At s (at + 4)) y → SFits w16 x → SFits w16 y
+      → _≡_ {A = Read FrameContext} (Read.value (record { «predictor_and_scale» = p; last = toZ w16 (ofZ w16 x); oldest = toZ w16 (ofZ w16 y) })) (field s (at + 6) (contextAt s at))
+  unfolding contextAt
+  context-made f g h fx fy = answer-in s (at + 6) (contextAt s at) (omega (arith, h .inside)) (rw (toZ-ofZ fx, toZ-ofZ fy, f .is, g .is, h .is))
 
-  pub header-room : {n : ℕ} → Got s (at + 28 + 1) (getD s (at + 28) 0) n → at + (32 + (n + 3) / 4 * 32) ≤ length s → (at + 32 ≤ length s) × (n ≡ getD s (at + 28) 0)
-  header-room g i = (omega arith, g .is)
+  -- ---- A cue
 
-  pub header-made : {n : ℕ} {h : BlockHeader} → Got s (at + 28 + 1) (getD s (at + 28) 0) n → at + (32 + (n + 3) / 4 * 32) ≤ length s → h ≡ headerAt s at
-      → HeaderRead.Value h ≡ headerRead (readHeader s at)
+  pub cue-made : {x : ℤ} {n : ℕ} → Got s (at + 4) (toZ w32 (u32At s at)) x → Got s (at + 4 + 4) (u32At s (at + 4)) n → SFits w32 x
+      → _≡_ {A = Read CuePoint} (Read.value (record { «sample_index» = toZ w32 (ofZ w32 x); id = n })) (field s (at + 8) (cueAt s at))
+  unfolding cueAt
+  cue-made f g fx = answer-in s (at + 8) (cueAt s at) (omega (arith, g .inside)) (rw (toZ-ofZ fx, f .is, g .is))
+
+  -- ---- A header
+
+  -- "filled up to a multiple of 4 cues": as the code counts it
+  filled : (n : ℕ) → (n + 3) / 4 * 32 ≡ P (8 * n)
+  unfolding P
+  filled n = omega arith
+
+  -- a refused field of it
+  pub header-out : {A : Type 0} {past : ℕ} {a : A} {n : ℕ} → Missed s past a n → past ≤ at + 32 → Read.refused n ≡ readHeader s at
   unfolding readHeader
-  header-made {n} g i e =
-      answer-in HeaderRead.Value HeaderRead.Short s (at + (32 + P (8 * getD s (at + 28) 0))) (headerAt s at) (rw (← (g .is)) (omega (arith, filled n))) e
+  header-out m h = field-later m (at + (32 + P (8 * getD s (at + 28) 0))) (headerAt s at) (omega arith)
+
+  module _ {n : ℕ} (c : Got s (at + 28 + 1) (getD s (at + 28) 0) n) where
+    pub cues-out : length s < at + (32 + (n + 3) / 4 * 32) → Read.refused 1 ≡ readHeader s at
+    unfolding readHeader
+    cues-out h = answer-out s (at + (32 + P (8 * getD s (at + 28) 0))) (headerAt s at) (rw (← (c .is)) (omega (arith, filled n)))
+
+    pub header-made : {size end next : ℕ} {l r : FrameContext} → Got s (at + 4) (u32At s at) size → Got s (at + 4 + 4) (u32At s (at + 4)) end → Got s (at + 8 + 4) (u32At s (at + 8)) next
+        → Got s (at + 12 + 6) (contextAt s (at + 12)) l → Got s (at + 20 + 6) (contextAt s (at + 20)) r → at + (32 + (n + 3) / 4 * 32) ≤ length s
+        → _≡_ {A = Read BlockHeader} (Read.value (record { size = size; «end_address» = end; «next_offset» = next; left = l; right = r; cues = n })) (readHeader s at)
+    unfolding readHeader headerAt
+    header-made a b d l r i =
+        answer-in s (at + (32 + P (8 * getD s (at + 28) 0))) (headerAt s at) (rw (← (c .is)) (omega (arith, filled n))) (rw (a .is, b .is, d .is, l .is, r .is, c .is))

@@ -89,12 +89,12 @@ module _ (s offsets : List ℕ) (count current : ℕ) (w : Walking s offsets cou
         below-more (λ (k : ℕ). getD (set offsets count current) k 0 ≤ above1) count (λ k l. rw (getD-set-other offsets count k current 0 (λ q. omega arith)) (omega (arith, f k l)))
         (rw (getD-set-same offsets count current 0 (omega (arith, wide))) e)
 
-    short : readHeader s current ≡ Read.refused 1 → walkFrom (suc (512 - (count + 1))) s (w .seen) current ≡ Walked.refused 1
+    stops : {n : ℕ} → readHeader s current ≡ Read.refused n → walkFrom (suc (512 - (count + 1))) s (w .seen) current ≡ Walked.refused n
     unfolding walkFrom
-    short e = rw e
+    stops e = rw e
 
-    pub at-short : readHeader s current ≡ Read.refused 1 → noWalk 1 ≡ walkOf (walkFrom 512 s [] 128)
-    at-short e = sym (ap walkOf (more ∙ short e))
+    pub at-refused : {n : ℕ} → readHeader s current ≡ Read.refused n → noWalk n ≡ walkOf (walkFrom 512 s [] 128)
+    at-refused e = sym (ap walkOf (more ∙ stops e))
 
     abbrev seen1 : List ℕ
     seen1 = w .seen ++ (current ∷ [])

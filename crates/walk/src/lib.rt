@@ -55,8 +55,9 @@ pub fn walk_blocks(s: &[u8]) -> Walk
         if count >= BLOCK_LIMIT {
             return refused(5);
         }
-        let HeaderRead::Value(header) = read_header(s, current) else {
-            return refused(1);
+        let read = read_header(s, current);
+        let HeaderRead::Value(header) = read else {
+            return refused(read.number());
         };
         offsets[count] = current;
         count += 1;

@@ -2,11 +2,11 @@ use mathlib.Core.Path.{_≡_, sym, ap, _∙_}
 use mathlib.Core.Logic.{⊎-elim}
 use native.Mathlib.Omega.{arith}
 use denote.Ref.{now}
-use Rattle.layout.proofs.FieldLaws.{u32, got, short}
+use Rattle.layout.proofs.FieldLaws.{u32, got, missed, beside-read, beside-number}
 use Rattle.reader.specs.declared.LoopStart.{LoopStart}
 use Rattle.reader.specs.OpeningAndReading.{Opened, opening}
 use Rattle.reader.specs.ReaderAnswers.{openCall}
-use Rattle.opening.proofs.OpenLaws.{atWalk, atRight, atLeft, atChannels, atCount, atRate, atMagic, too-long, not-long, refuses, on-value, on-refused, pick-true, pick-false, magic-right, magic-wrong, channel-read, channel-refused, opens-to, walk-stops}
+use Rattle.opening.proofs.OpenLaws.{atWalk, atRight, atLeft, atChannels, atCount, atRate, atMagic, too-long, not-long, refuses, on-value, on-refused, pick-true, pick-false, magic-right, magic-refused, opens-to, walk-stops}
 use Rattle.reader.proofs.OpenedLaws.{and-readable}
 use borrow.Author.Needs.{needs}
 use Rattle.opening.proofs.open.Statement.{statement}
@@ -16,25 +16,25 @@ use Rattle.opening.proofs.open.Tie as tie
 after-magic : (c : tie.After-read-u32) → (let s = now (c .before .before .before .before .before .before .args .s) in opening s ≡ atRate s)
 after-magic c =
     let s = now (c .before .before .before .before .before .before .args .s) in
-    not-long s (c .before .before .before .before .if1 .left) ∙ magic-right s 8 _ (atRate s) (c .before .before .before .read-magic .ensures) (c .before .enum-told .given .1)
+    not-long s (c .before .before .before .before .if1 .left) ∙ on-value _ _ (magic-right (c .before .before .before .read-magic .ensures) (c .before .enum-told .given .1))
 
-after-rate : (c : tie.After-read-u322) → (let s = now (c .before .before .before .before .before .before .before .before .before .before .args .s) in opening s ≡ atCount s (c .before .before .rate .given .0 .0))
-after-rate c = after-magic (c .before .before .before .before) ∙ on-value _ _ (got u32 (c .before .before .before .before .read-u32 .ensures) (c .before .before .rate .given .1) .read)
+after-rate : (c : tie.After-read-u322) → (let s = now (c .before .before .before .before .before .before .before .before .before .before .args .s) in opening s ≡ atCount s (c .before .before .read .given .0 .0))
+after-rate c = after-magic (c .before .before .before .before) ∙ on-value _ _ (got u32 (c .before .before .before .before .read-u32 .ensures) (c .before .before .read .given .1) .read)
 
-after-count : (c : tie.After-wrong-count) → (let s = now (c .before .before .before .before .before .before .before .before .before .before .before .before .before .before .args .s) in opening s ≡ atChannels s (c .before .before .before .before .before .before .rate .given .0 .0) (c .before .before .count .given .0 .0))
-after-count c = after-rate (c .before .before .before .before) ∙ on-value _ _ (got u32 (c .before .before .before .before .read-u322 .ensures) (c .before .before .count .given .1) .read)
+after-count : (c : tie.After-wrong-count) → (let s = now (c .before .before .before .before .before .before .before .before .before .before .before .before .before .before .args .s) in opening s ≡ atChannels s (c .before .before .before .before .before .before .read .given .0 .0) (c .before .before .read2 .given .0 .0))
+after-count c = after-rate (c .before .before .before .before) ∙ on-value _ _ (got u32 (c .before .before .before .before .read-u322 .ensures) (c .before .before .read2 .given .1) .read)
 
-right-count : (c : tie.After-read-channel) → (let s = now (c .before .before .before .before .before .before .before .before .before .before .before .before .before .before .before .before .args .s) in opening s ≡ atLeft s (c .before .before .before .before .before .before .before .before .rate .given .0 .0) (c .before .before .before .before .count .given .0 .0))
+right-count : (c : tie.After-read-channel) → (let s = now (c .before .before .before .before .before .before .before .before .before .before .before .before .before .before .before .before .args .s) in opening s ≡ atLeft s (c .before .before .before .before .before .before .before .before .read .given .0 .0) (c .before .before .before .before .read2 .given .0 .0))
 right-count c = after-count (c .before .before) ∙ pick-false _ _ (sym (c .before .before .wrong-count .ensures) ∙ c .before .if2 .left)
 
 after-left : (c : tie.After-read-channel2)
-    → (let s = now (c .before .before .before .before .before .before .before .before .before .before .before .before .before .before .before .before .before .before .before .args .s) in opening s ≡ atRight s (c .before .before .before .before .before .before .before .before .before .before .before .rate .given .0 .0) (c .before .before .before .before .before .before .before .count .given .0 .0) (c .before .before .before .read-channel .result .channel))
-after-left c = right-count (c .before .before .before) ∙ on-value _ _ (channel-read _ 16 (c .before .before .before .read-channel .ensures) (c .before .enum-told4 .given .1))
+    → (let s = now (c .before .before .before .before .before .before .before .before .before .before .before .before .before .before .before .before .before .before .before .args .s) in opening s ≡ atRight s (c .before .before .before .before .before .before .before .before .before .before .before .read .given .0 .0) (c .before .before .before .before .before .before .before .read2 .given .0 .0) (c .before .before .before .read-channel .result .channel))
+after-left c = right-count (c .before .before .before) ∙ on-value _ _ (beside-read _ (c .before .before .before .read-channel .ensures .0) (c .before .enum-told5 .given .1))
 
 after-right : (c : tie.After-walk-blocks)
     → (let s = now (c .before .before .before .before .before .before .before .before .before .before .before .before .before .before .before .before .before .before .before .before .before .before .args .s) in
-    opening s ≡ atWalk s (c .before .before .before .before .before .before .before .before .before .before .before .before .before .before .rate .given .0 .0) (c .before .before .before .before .before .before .before .before .before .before .count .given .0 .0) (c .before .before .before .before .before .before .read-channel .result .channel) (c .before .before .before .read-channel2 .result .channel))
-after-right c = after-left (c .before .before .before) ∙ on-value _ _ (channel-read _ 72 (c .before .before .before .read-channel2 .ensures) (c .before .enum-told5 .given .1))
+    opening s ≡ atWalk s (c .before .before .before .before .before .before .before .before .before .before .before .before .before .before .read .given .0 .0) (c .before .before .before .before .before .before .before .before .before .before .read2 .given .0 .0) (c .before .before .before .before .before .before .read-channel .result .channel) (c .before .before .before .read-channel2 .result .channel))
+after-right c = after-left (c .before .before .before) ∙ on-value _ _ (beside-read _ (c .before .before .before .read-channel2 .ensures .0) (c .before .enum-told7 .given .1))
 
 refused-requires : tie.Need-refused-requires
 refused-requires c κs = search needs
@@ -48,48 +48,63 @@ read-magic-requires c κs = search needs
 enum-told : tie.Need-enum-told
 enum-told c = search needs
 
-magic-number-requires : tie.Need-magic-number-requires
-magic-number-requires c κs = search needs
+enum-told-2 : tie.Need-enum-told-2
+enum-told-2 c = search needs
+
+number-requires : tie.Need-number-requires
+number-requires c κs = search needs
 
 refused-requires-2 : tie.Need-refused-requires-2
 refused-requires-2 c κs = search needs
 
 returns-2 : tie.Need-returns-2
 returns-2 c =
-    and-readable _ _ (
-    let s = now (c .before .before .before .before .before .before .args .s) in
-    refuses s _ (c .refused2 .ensures)
-    (rw (c .before .magic-number .ensures) (not-long s (c .before .before .before .before .if1 .left) ∙ magic-wrong s 8 _ (atRate s) (c .before .before .before .read-magic .ensures) (λ e. let k = rw e at (c .before .before .match .keys2) in ⊎-elim (λ z. omega arith) (λ z. omega arith) k))))
+    let s = now (c .before .before .before .before .before .before .before .args .s) in
+    and-readable _ _ (refuses s _ (c .refused2 .ensures)
+    (not-long s (c .before .before .before .before .before .if1 .left)
+    ∙ on-refused _ _ (magic-refused (c .before .before .before .before .read-magic .ensures) (c .before .before .enum-told2 .given .1) (c .before .number .ensures))))
 
 read-u32-requires : tie.Need-read-u32-requires
 read-u32-requires c κs = search needs
 
-enum-known-rate : tie.Need-enum-known-rate
-enum-known-rate c = search needs
+enum-known-read : tie.Need-enum-known-read
+enum-known-read c = search needs
 
-enum-told-2 : tie.Need-enum-told-2
-enum-told-2 c = search needs
+enum-told-3 : tie.Need-enum-told-3
+enum-told-3 c = search needs
+
+number-requires-2 : tie.Need-number-requires-2
+number-requires-2 c κs = search needs
 
 refused-requires-3 : tie.Need-refused-requires-3
 refused-requires-3 c κs = search needs
 
 returns-3 : tie.Need-returns-3
-returns-3 c = and-readable _ _ (refuses _ 1 (c .refused3 .ensures) (after-magic (c .before .before .before) ∙ on-refused _ _ (short u32 (c .before .before .before .read-u32 .ensures) (c .before .enum-told2 .given .1) .is)))
+returns-3 c =
+    and-readable _ _ (refuses _ _ (c .refused3 .ensures)
+    (after-magic (c .before .before .before .before)
+    ∙ on-refused _ _ (missed u32 (c .before .before .before .before .read-u32 .ensures) (c .before .before .enum-told3 .given .1) (c .before .number2 .ensures) .is)))
 
 read-u32-requires-2 : tie.Need-read-u32-requires-2
 read-u32-requires-2 c κs = search needs
 
-enum-known-count : tie.Need-enum-known-count
-enum-known-count c = search needs
+enum-known-read-2 : tie.Need-enum-known-read-2
+enum-known-read-2 c = search needs
 
-enum-told-3 : tie.Need-enum-told-3
-enum-told-3 c = search needs
+enum-told-4 : tie.Need-enum-told-4
+enum-told-4 c = search needs
+
+number-requires-3 : tie.Need-number-requires-3
+number-requires-3 c κs = search needs
 
 refused-requires-4 : tie.Need-refused-requires-4
 refused-requires-4 c κs = search needs
 
 returns-4 : tie.Need-returns-4
-returns-4 c = and-readable _ _ (refuses _ 1 (c .refused4 .ensures) (after-rate (c .before .before .before) ∙ on-refused _ _ (short u32 (c .before .before .before .read-u322 .ensures) (c .before .enum-told3 .given .1) .is)))
+returns-4 c =
+    and-readable _ _ (refuses _ _ (c .refused4 .ensures)
+    (after-rate (c .before .before .before .before)
+    ∙ on-refused _ _ (missed u32 (c .before .before .before .before .read-u322 .ensures) (c .before .before .enum-told4 .given .1) (c .before .number3 .ensures) .is)))
 
 wrong-count-requires : tie.Need-wrong-count-requires
 wrong-count-requires c κs = search needs
@@ -103,44 +118,50 @@ returns-5 c = and-readable _ _ (refuses _ 3 (c .refused5 .ensures) (after-count 
 read-channel-requires : tie.Need-read-channel-requires
 read-channel-requires c κs = search needs
 
-enum-told-4 : tie.Need-enum-told-4
-enum-told-4 c = search needs
+enum-told-5 : tie.Need-enum-told-5
+enum-told-5 c = search needs
 
-channel-number-requires : tie.Need-channel-number-requires
-channel-number-requires c κs = search needs
+enum-told-6 : tie.Need-enum-told-6
+enum-told-6 c = search needs
+
+number-requires-4 : tie.Need-number-requires-4
+number-requires-4 c κs = search needs
 
 refused-requires-6 : tie.Need-refused-requires-6
 refused-requires-6 c κs = search needs
 
 returns-6 : tie.Need-returns-6
 returns-6 c =
-    and-readable _ _ (
-    refuses _ _ (c .refused6 .ensures)
-    (rw (c .before .channel-number .ensures) (right-count (c .before .before .before) ∙ on-refused _ _ (channel-refused _ 16 (c .before .before .before .read-channel .ensures) (λ e. let k = rw e at (c .before .before .match4 .keys2) in ⊎-elim (λ z. omega arith) (λ z. omega arith) k)))))
+    and-readable _ _ (refuses _ _ (c .refused6 .ensures)
+    (right-count (c .before .before .before .before)
+    ∙ on-refused _ _ (beside-number _ (c .before .before .before .before .read-channel .ensures .0) (c .before .before .enum-told6 .given .1) (c .before .number4 .ensures))))
 
 read-channel-requires-2 : tie.Need-read-channel-requires-2
 read-channel-requires-2 c κs = search needs
 
-enum-told-5 : tie.Need-enum-told-5
-enum-told-5 c = search needs
+enum-told-7 : tie.Need-enum-told-7
+enum-told-7 c = search needs
 
-channel-number-requires-2 : tie.Need-channel-number-requires-2
-channel-number-requires-2 c κs = search needs
+enum-told-8 : tie.Need-enum-told-8
+enum-told-8 c = search needs
+
+number-requires-5 : tie.Need-number-requires-5
+number-requires-5 c κs = search needs
 
 refused-requires-7 : tie.Need-refused-requires-7
 refused-requires-7 c κs = search needs
 
 returns-7 : tie.Need-returns-7
 returns-7 c =
-    and-readable _ _ (
-    refuses _ _ (c .refused7 .ensures)
-    (rw (c .before .channel-number2 .ensures) (after-left (c .before .before .before) ∙ on-refused _ _ (channel-refused _ 72 (c .before .before .before .read-channel2 .ensures) (λ e. let k = rw e at (c .before .before .match5 .keys2) in ⊎-elim (λ z. omega arith) (λ z. omega arith) k)))))
+    and-readable _ _ (refuses _ _ (c .refused7 .ensures)
+    (after-left (c .before .before .before .before)
+    ∙ on-refused _ _ (beside-number _ (c .before .before .before .before .read-channel2 .ensures .0) (c .before .before .enum-told8 .given .1) (c .before .number5 .ensures))))
 
 walk-blocks-requires : tie.Need-walk-blocks-requires
 walk-blocks-requires c κs = search needs
 
-enum-told-6 : tie.Need-enum-told-6
-enum-told-6 c = search needs
+enum-told-9 : tie.Need-enum-told-9
+enum-told-9 c = search needs
 
 enum-known-end : tie.Need-enum-known-end
 enum-known-end c = search needs
@@ -157,8 +178,8 @@ returns-8 c = and-readable _ _ (refuses _ _ (c .refused8 .ensures) (walk-stops _
 in-use-requires : tie.Need-in-use-requires
 in-use-requires c κs = search needs
 
-cast-t18 : tie.Need-cast-t18
-cast-t18 c = search needs
+cast-t20 : tie.Need-cast-t20
+cast-t20 c = search needs
 
 returns-9 : tie.Need-returns-9
 returns-9 c =
@@ -174,38 +195,43 @@ open-spec =
     returns
     read-magic-requires
     enum-told
-    magic-number-requires
+    enum-told-2
+    number-requires
     refused-requires-2
     returns-2
     read-u32-requires
-    enum-known-rate
-    enum-told-2
+    enum-known-read
+    enum-told-3
+    number-requires-2
     refused-requires-3
     returns-3
     read-u32-requires-2
-    enum-known-count
-    enum-told-3
+    enum-known-read-2
+    enum-told-4
+    number-requires-3
     refused-requires-4
     returns-4
     wrong-count-requires
     refused-requires-5
     returns-5
     read-channel-requires
-    enum-told-4
-    channel-number-requires
+    enum-told-5
+    enum-told-6
+    number-requires-4
     refused-requires-6
     returns-6
     read-channel-requires-2
-    enum-told-5
-    channel-number-requires-2
+    enum-told-7
+    enum-told-8
+    number-requires-5
     refused-requires-7
     returns-7
     walk-blocks-requires
-    enum-told-6
+    enum-told-9
     enum-known-end
     enum-known-end-2
     refused-requires-8
     returns-8
     in-use-requires
-    cast-t18
+    cast-t20
     returns-9)

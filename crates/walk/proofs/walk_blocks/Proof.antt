@@ -4,8 +4,8 @@ use borrow.Author.Needs.{needs}
 use borrow.Author.Count.{below-more, below-none}
 use native.Mathlib.Omega.{arith}
 use lib.ListN.{getD}
-use Rattle.reader.proofs.HeaderLaws.{header-got, header-short}
-use Rattle.walk.proofs.WalkLaws.{Walking, walking-none, at-full, at-short, at-end, at-loop, at-next, all-higher}
+use Rattle.reader.proofs.HeaderLaws.{header-got, header-refused}
+use Rattle.walk.proofs.WalkLaws.{Walking, walking-none, at-full, at-refused, at-end, at-loop, at-next, all-higher}
 use Rattle.walk.proofs.walk_blocks.Statement.{statement}
 use Rattle.walk.proofs.walk_blocks.Tie as tie
 
@@ -35,19 +35,24 @@ returns c =
 read-header-requires : tie.Need-read-header-requires Inv-loop μ-loop Inv-walk μ-walk
 read-header-requires c κs = search needs
 
-enum-known-header : tie.Need-enum-known-header Inv-loop μ-loop Inv-walk μ-walk
-enum-known-header c = search needs
+enum-known-read : tie.Need-enum-known-read Inv-loop μ-loop Inv-walk μ-walk
+enum-known-read c = search needs
 
 enum-told : tie.Need-enum-told Inv-loop μ-loop Inv-walk μ-walk
 enum-told c = search needs
+
+number-requires : tie.Need-number-requires Inv-loop μ-loop Inv-walk μ-walk
+number-requires c κs = search needs
 
 refused-requires-2 : tie.Need-refused-requires-2 Inv-loop μ-loop Inv-walk μ-walk
 refused-requires-2 c κs = search needs
 
 returns-2 : tie.Need-returns-2 Inv-loop μ-loop Inv-walk μ-walk
 returns-2 c =
-    let w = c .before .before .before .before .before .walk in
-    c .refused2 .ensures ∙ at-short _ (w .offsets) (w .count) (w .current) (w .inv .0) (c .before .before .before .before .if1 .left) (header-short _ _ (c .before .before .before .read-header .ensures) (c .before .enum-told .given .1))
+    let w = c .before .before .before .before .before .before .walk in
+    c .refused2 .ensures
+    ∙ at-refused _ (w .offsets) (w .count) (w .current) (w .inv .0) (c .before .before .before .before .before .if1 .left)
+    (header-refused _ _ (c .before .before .before .before .read-header .ensures) (c .before .before .enum-told .given .1) (c .before .number .ensures))
 
 mul-offsets : tie.Need-mul-offsets Inv-loop μ-loop Inv-walk μ-walk
 mul-offsets c = search needs
@@ -97,8 +102,8 @@ walk-again : tie.Need-walk-again Inv-loop μ-loop Inv-walk μ-walk
 walk-again c =
     let w = c .before .before .before .before .before .before .before .before .before .before .walk in
     let most = c .before .before .before .before .higher .ensures in (
-      at-next _ (w .offsets) (w .count) (w .current) (w .inv .0) (c .before .before .before .before .before .before .before .before .before .if1 .left) (c .before .before .before .before .before .before .header .given .0 .0)
-          (header-got _ _ (c .before .before .before .before .before .before .before .before .read-header .ensures) (c .before .before .before .before .before .before .header .given .1))
+      at-next _ (w .offsets) (w .count) (w .current) (w .inv .0) (c .before .before .before .before .before .before .before .before .before .if1 .left) (c .before .before .before .before .before .before .read .given .0 .0)
+          (header-got _ _ (c .before .before .before .before .before .before .before .before .read-header .ensures) (c .before .before .before .before .before .before .read .given .1))
           (c .before .before .before .if2 .left) (λ k l. c .before .loop .inv .1 k (omega arith)),
       all-higher _ (w .offsets) (w .count) (w .current) (w .inv .0) (c .before .before .before .before .before .before .before .before .before .if1 .left) _ _ (w .inv .1) (most .0) (most .1),
     )
@@ -106,14 +111,14 @@ walk-again c =
 returns-3 : tie.Need-returns-3 Inv-loop μ-loop Inv-walk μ-walk
 returns-3 c =
     let w = c .before .before .before .before .before .before .before .walk in
-    at-end _ (w .offsets) (w .count) (w .current) (w .inv .0) (c .before .before .before .before .before .before .if1 .left) (c .before .before .before .header .given .0 .0)
-    (header-got _ _ (c .before .before .before .before .before .read-header .ensures) (c .before .before .before .header .given .1)) (c .if2 .taken)
+    at-end _ (w .offsets) (w .count) (w .current) (w .inv .0) (c .before .before .before .before .before .before .if1 .left) (c .before .before .before .read .given .0 .0)
+    (header-got _ _ (c .before .before .before .before .before .read-header .ensures) (c .before .before .before .read .given .1)) (c .if2 .taken)
 
 returns-4 : tie.Need-returns-4 Inv-loop μ-loop Inv-walk μ-walk
 returns-4 c =
     let w = c .before .before .before .before .before .before .before .before .before .before .before .walk in
-    at-loop _ (w .offsets) (w .count) (w .current) (w .inv .0) (c .before .before .before .before .before .before .before .before .before .before .if1 .left) (c .before .before .before .before .before .before .before .header .given .0 .0)
-    (header-got _ _ (c .before .before .before .before .before .before .before .before .before .read-header .ensures) (c .before .before .before .before .before .before .before .header .given .1))
+    at-loop _ (w .offsets) (w .count) (w .current) (w .inv .0) (c .before .before .before .before .before .before .before .before .before .before .if1 .left) (c .before .before .before .before .before .before .before .read .given .0 .0)
+    (header-got _ _ (c .before .before .before .before .before .before .before .before .before .read-header .ensures) (c .before .before .before .before .before .before .before .read .given .1))
     (c .before .before .before .before .if2 .left) (c .before .before .loop .i) (omega arith) (c .if3 .taken) (c .before .before .loop .inv .1)
 
 pub walk-blocks-spec : {M : Type 1} → statement M
@@ -128,8 +133,9 @@ walk-blocks-spec =
     refused-requires
     returns
     read-header-requires
-    enum-known-header
+    enum-known-read
     enum-told
+    number-requires
     refused-requires-2
     returns-2
     mul-offsets

@@ -17,11 +17,11 @@ signed16-requires : tie.Need-signed16-requires
 signed16-requires c κs = search needs
 
 returns : tie.Need-returns
-returns c = answer-in _ _ _ _ _ (passed (c .before .before .before .inside .ensures) (c .before .before .if1 .taken))
+returns c = answer-in _ _ _ (passed (c .before .before .before .inside .ensures) (c .before .before .if1 .taken))
     (toZ-ofZ (record { sfits = c .signed16 .ok }) ∙ c .signed16 .ensures ∙ ap (toZ w16) (c .before .be16 .ensures))
 
 returns-2 : tie.Need-returns-2
-returns-2 c = answer-out _ _ _ _ _ (failed (c .before .inside .ensures) (c .if1 .left))
+returns-2 c = answer-out _ _ _ (failed (c .before .inside .ensures) (c .if1 .left))
 
 pub read-i16-spec : {M : Type 1} → statement M
 read-i16-spec =

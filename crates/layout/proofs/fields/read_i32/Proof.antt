@@ -17,11 +17,11 @@ signed32-requires : tie.Need-signed32-requires
 signed32-requires c κs = search needs
 
 returns : tie.Need-returns
-returns c = answer-in _ _ _ _ _ (passed (c .before .before .before .inside .ensures) (c .before .before .if1 .taken))
+returns c = answer-in _ _ _ (passed (c .before .before .before .inside .ensures) (c .before .before .if1 .taken))
     (toZ-ofZ (record { sfits = c .signed32 .ok }) ∙ c .signed32 .ensures ∙ ap (toZ w32) (c .before .be32 .ensures))
 
 returns-2 : tie.Need-returns-2
-returns-2 c = answer-out _ _ _ _ _ (failed (c .before .inside .ensures) (c .if1 .left))
+returns-2 c = answer-out _ _ _ (failed (c .before .inside .ensures) (c .if1 .left))
 
 pub read-i32-spec : {M : Type 1} → statement M
 read-i32-spec =

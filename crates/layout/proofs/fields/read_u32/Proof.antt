@@ -10,10 +10,10 @@ be32-requires : tie.Need-be32-requires
 be32-requires c κs = passed (c .before .inside .ensures) (c .if1 .taken)
 
 returns : tie.Need-returns
-returns c = answer-in _ _ _ _ _ (passed (c .before .before .inside .ensures) (c .before .if1 .taken)) (c .be32 .ensures)
+returns c = answer-in _ _ _ (passed (c .before .before .inside .ensures) (c .before .if1 .taken)) (c .be32 .ensures)
 
 returns-2 : tie.Need-returns-2
-returns-2 c = answer-out _ _ _ _ _ (failed (c .before .inside .ensures) (c .if1 .left))
+returns-2 c = answer-out _ _ _ (failed (c .before .inside .ensures) (c .if1 .left))
 
 pub read-u32-spec : {M : Type 1} → statement M
 read-u32-spec = tie.close (tie.spec inside-requires be32-requires returns returns-2)

@@ -9,10 +9,10 @@ shared-slice-read-t7 : tie.Need-shared-slice-read-t7
 shared-slice-read-t7 c = search needs
 
 returns : tie.Need-returns
-returns c = answer-in _ _ _ _ _ (omega arith) refl
+returns c = answer-in _ _ _ (omega arith) refl
 
 returns-2 : tie.Need-returns-2
-returns-2 c = answer-out _ _ _ _ _ (omega arith)
+returns-2 c = answer-out _ _ _ (omega arith)
 
 pub read-u8-spec : {M : Type 1} → statement M
 read-u8-spec = tie.close (tie.spec shared-slice-read-t7 returns returns-2)

@@ -1,6 +1,6 @@
 -- The slot's first eight bytes at a cut, and the refusal that they make.
 use Prim.Native.Nat.{ℕ, _+_, _<_, _≤_}
-use mathlib.Core.Path.{_≡_, refl, ap, sym, _∙_}
+use mathlib.Core.Path.{_≡_, refl, ap, _∙_}
 use mathlib.Core.Bool.{true, false}
 use mathlib.Core.List.{List, [], _∷_, _++_, append-nil}
 use mathlib.Core.Logic.{_⊎_, inl, inr, ⊎-elim}
@@ -10,7 +10,7 @@ use lib.Seq.{take-append-le, take-take, take-at}
 use Rattle.layout.specs.Lists.{All, same, put}
 use Rattle.layout.specs.Types.{Bytes}
 use Rattle.layout.specs.Records.{magic, fileHeaderBytes}
-use Rattle.layout.proofs.Cases.{by-cases, apart}
+use Rattle.layout.proofs.Cases.{by-cases}
 use Rattle.reader.proofs.RefusalLaws.{refusal}
 use Rattle.writer.specs.WritesAndCuttingRule.{Write, write, CutLeaves, torn, old, new, took}
 use Rattle.writer.specs.Loading.{Call, beginWrites, headerFor, headerWrites}
@@ -41,7 +41,7 @@ torn-starts s vs first l =
     take-append-le 8 g (drop (0 + length g) (carriedAll s vs)) (omega (arith, length-append first (replicate 7 0))) ∙ take-at first (replicate 7 0) 8 l
 
 module _ (h : List ℕ) (lh : length h ≡ 128) where
-  -- the first has taken
+  -- the first has taken: a cut of the other two
   header-cut : {s t : List ℕ} {k : ℕ} → 128 ≤ length s → CutLeaves s (headerWrites h) k t → 0 < k → take 8 t ≡ take 8 h
   header-cut wide (torn g b e l) q = absurd (omega arith)
   header-cut wide (old e) q = absurd (omega arith)
@@ -54,13 +54,13 @@ module _ (h : List ℕ) (lh : length h ≡ 128) where
 
   module _ (s : List ℕ) (vs : List Write) (away : All (Away 0 15 (length s)) vs) where
     -- the first has not been reached
-    before-header : {t : List ℕ} {k : ℕ} → Split s vs (headerWrites h) k t → k < length vs → take 8 t ≡ take 8 s
-    before-header (within l) q = alike-take 8 (away-cut refl away l) (omega arith)
-    before-header (beyond m e l) q = absurd (omega arith)
+    header-ahead : {t : List ℕ} {k : ℕ} → Split s vs (headerWrites h) k t → k < length vs → take 8 t ≡ take 8 s
+    header-ahead (within l) q = alike-take 8 (away-cut refl away l) (omega arith)
+    header-ahead (beyond m e l) q = absurd (omega arith)
 
-    after-first : {t : List ℕ} {k : ℕ} → 128 ≤ length s → Split s vs (headerWrites h) k t → length vs < k → take 8 t ≡ take 8 h
-    after-first wide (within l) q = absurd (omega (arith, taken-few l))
-    after-first wide (beyond m e l) q = header-cut (omega (arith, away-cut refl away (cut-all s vs) .long)) l (omega arith)
+    header-taken : {t : List ℕ} {k : ℕ} → 128 ≤ length s → Split s vs (headerWrites h) k t → length vs < k → take 8 t ≡ take 8 h
+    header-taken wide (within l) q = absurd (omega (arith, taken-few l))
+    header-taken wide (beyond m e l) q = header-cut (omega (arith, away-cut refl away (cut-all s vs) .long)) l (omega arith)
 
   -- the first is under way
   torn-cut : (s : List ℕ) (vs : List Write) (first : List ℕ) → Bytes first → length first ≡ 8 → CutLeaves s (vs ++ headerWrites h) (length vs) (torn-to s vs first)
@@ -85,6 +85,7 @@ module _ (earlier : List ℕ) (b : Book) (cs : List Call) (typed : All Typed cs)
   written : Written d (bookWritten b cs)
   written = run-written b cs typed kept going
 
+  -- begin's write and the blocks'
   vs : List Write
   vs = beginWrites ++ written .blocks
 
@@ -111,6 +112,9 @@ module _ (earlier : List ℕ) (b : Book) (cs : List Call) (typed : All Typed cs)
   done-length : d .finished ≡ true → length ws ≡ length vs + 3
   done-length q = ap length (done-writes q) ∙ length-append vs (headerWrites (fileHeader d))
 
+  few : length ws ≤ length vs + 3
+  few = by-cases (d .finished) (λ q. omega (arith, done-length q)) (λ q. omega (arith, ap length (open-writes q)))
+
   some : 0 < length vs
   unfolding vs
   some = omega arith
@@ -121,26 +125,24 @@ module _ (earlier : List ℕ) (b : Book) (cs : List Call) (typed : All Typed cs)
         let s = cut-law earlier b cs k t typed kept going n l .loading p o in
         refusal t (omega (arith, s .long, kept .wide)) (omega (arith, s .long, kept .small)) (s .zeroed)
 
-    before : (d .finished ≡ false) ⊎ (k + 3 < length ws) → take 8 t ≡ take 8 earlier
-    before o =
-        by-cases (d .finished)
-        (λ q.
-        let f : k < length vs = ⊎-elim (λ z. apart (sym q ∙ z)) (λ z. omega (arith, done-length q)) o in
-        before-header (fileHeader d) header-long earlier vs away (cut-split vs (rw (done-writes q) at l)) f)
-        (λ q. alike-take 8 (away-cut refl away (rw (open-writes q) at l)) (omega arith))
+    unfinished : d .finished ≡ false → take 8 t ≡ take 8 earlier
+    unfinished q = alike-take 8 (away-cut refl away (rw (open-writes q) at l)) (omega arith)
 
-    after : d .finished ≡ true → length ws < k + 3 → take 8 t ≡ magic
-    after q z = after-first (fileHeader d) header-long earlier vs away wide (cut-split vs (rw (done-writes q) at l)) (omega (arith, done-length q)) ∙ header-magic d
+    before : k < length vs → take 8 t ≡ take 8 earlier
+    before z = by-cases (d .finished) (λ q. header-ahead (fileHeader d) header-long earlier vs away (cut-split vs (rw (done-writes q) at l)) z) unfinished
+
+    after : d .finished ≡ true → length vs < k → take 8 t ≡ magic
+    after q z = header-taken (fileHeader d) header-long earlier vs away wide (cut-split vs (rw (done-writes q) at l)) z ∙ header-magic d
 
     refusal-at : RefusalAt earlier d ws k t
     unfolding same
     refusal-at =
         record {
           answer = answer;
-          before = before;
-          after = after;
-          loading = λ p o. answer p (⊎-elim inl (λ z. inr (omega arith)) o) ∙ ap refusalBy (before o);
-          finishing = λ q z u. answer (omega (arith, done-length q, some)) (inr u) ∙ ap refusalBy (after q z);
+          before = ⊎-elim unfinished (λ z. before (omega (arith, few)));
+          after = λ q z. after q (omega (arith, done-length q));
+          loading = λ p. ⊎-elim (λ q. answer p (inl q) ∙ ap refusalBy (unfinished q)) (λ z. answer p (inr (omega arith)) ∙ ap refusalBy (before (omega (arith, few))));
+          finishing = λ q z u. answer (omega (arith, done-length q, some)) (inr u) ∙ ap refusalBy (after q (omega (arith, done-length q)));
         }
 
   cut-to : d .finished ≡ true → (first : List ℕ) → Bytes first → length first ≡ 8 → CutTo earlier ws first
@@ -149,7 +151,7 @@ module _ (earlier : List ℕ) (b : Book) (cs : List Call) (typed : All Typed cs)
       let t = torn-to earlier vs first in
       let c : CutLeaves earlier ws (length vs) t = rw (done-writes q) (torn-cut (fileHeader d) header-long earlier vs first y l) in
       let f : take 8 t ≡ first = torn-starts earlier vs first l in
-      record { taken = length vs; slot = t; under = sym e; cut = c; starts = f; opening = answer (length vs) t c some (inr (omega arith)) ∙ ap refusalBy f }
+      record { taken = length vs; slot = t; under = omega arith; cut = c; starts = f; opening = answer (length vs) t c some (inr (omega arith)) ∙ ap refusalBy f }
 
   refusals : Refusals earlier d ws
   unfolding vs

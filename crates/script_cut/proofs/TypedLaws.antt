@@ -25,7 +25,7 @@ use Rattle.script.specs.declared.kinds.Kind.the-variants as Kinds
 use Rattle.script_order.specs.Order.{said, sidesIn, lentBy, openingFrom}
 use Rattle.writer.specs.Loading.{cue, push, finish, Push}
 use Rattle.writer.specs.Typed.{TypedCue, TypedBlock, TypedSide, TypedPush, Typed}
-use Rattle.tearing.proofs.WriteLaws.{all-append}
+use Rattle.power_cut.proofs.ElementLaws.{all-append}
 use Rattle.noted_calls.specs.NotedCalls.{lentOf}
 use Rattle.calls.specs.Script.{pushWith, pushBy, callBy, callsIn, callsOf, openingOf}
 

@@ -16,10 +16,11 @@ use Rattle.puts.proofs.PutLaws.{put-length, put-none}
 use Rattle.writer.specs.WritesAndCuttingRule.{Write, write, carried, CutLeaves, ended, torn, old, took}
 use Rattle.power_cut.specs.LoadingBook.{begun}
 use Rattle.power_cut.specs.PowerCut.{begin, allWrites, PowerCut}
+use Rattle.power_cut.proofs.ElementLaws.{bytes-append}
 use Rattle.power_cut.proofs.Follow.{begin-accepted}
 use Rattle.power_cut.proofs.Whole.{power-cut, kept0, writes-is}
 use Rattle.tearing.specs.Moments.{reached, slotAt, takenAt, Inside, EveryMoment, PowerCutAtMoments}
-use Rattle.tearing.proofs.ByteLaws.{bytes-take, bytes-drop, bytes-append, bytes-put}
+use Rattle.tearing.proofs.ByteLaws.{bytes-take, bytes-drop, bytes-put}
 use Rattle.tearing.proofs.MomentLaws.{reached-in}
 use Rattle.tearing.proofs.WriteLaws.{run-inside}
 

@@ -18,7 +18,7 @@ use Rattle.layout.specs.declared.Channel.{Channel}
 use Rattle.layout.specs.declared.CuePoint.{CuePoint}
 use Rattle.layout.proofs.Cases.{by-cases, or-false}
 use Rattle.writer.specs.WritesAndCuttingRule.{Write, write}
-use Rattle.writer.specs.Loading.{Push, Call, lengthOf, headerFor, bytesOf, beginWrites, points, pointsOf}
+use Rattle.writer.specs.Loading.{Push, Call, lengthOf, headerFor, bytesOf, beginWrites, headerWrites, points, pointsOf}
 use Rattle.writer.specs.Typed.{Typed, TypedPush}
 use Rattle.writer.specs.declared.Cue.{Cue}
 use Rattle.writer.proofs.CueLaws.{points-few, points-length}
@@ -27,8 +27,9 @@ use Rattle.power_cut.specs.FinishedFile.{fileHeader}
 use Rattle.power_cut.proofs.Kept.{Kept}
 use Rattle.power_cut.proofs.RecordOf.{handsOut, bookWrites, bookWritten}
 use Rattle.power_cut.proofs.Keeping.{call-kept}
-use Rattle.power_cut.proofs.CutLaws.{Shape}
-use Rattle.power_cut.proofs.CutRun.{run-shape}
+use Rattle.power_cut.proofs.ElementLaws.{all-append, all-each}
+use Rattle.power_cut.proofs.CutRun.{run-written, header-first, header-second, header-third}
+use Rattle.power_cut.proofs.SlotRun.{same-run}
 use Rattle.tearing.specs.Moments.{Inside}
 use Rattle.tearing.proofs.ByteLaws.{bytes-take, bytes-drop}
 
@@ -36,10 +37,6 @@ use Rattle.tearing.proofs.ByteLaws.{bytes-take, bytes-drop}
 
 abbrev Small : ℕ → Type 0
 Small x = x < 256
-
-pub all-append : {A : Type 0} {Q : A → Type 0} {xs ys : List A} → All Q xs → All Q ys → All Q (xs ++ ys)
-all-append none b = b
-all-append (more q a) b = more q (all-append a b)
 
 -- a list of literals, by one test
 smalls : (l : List ℕ) → any (λ x. leb 256 x) l ≡ false → All Small l
@@ -159,15 +156,26 @@ run-bytes b (c ∷ cs) (more t ts) h = all-append (call-bytes b c t h) (run-byte
 
 -- ---- Each lies in the slot
 
-insides : {n : ℕ} {ws : List Write} {f : Bool} → 16 ≤ n → Shape n ws f → All Written ws → All (Inside n) ws
-insides l Shape.none none = none
-insides l (Shape.last x) (more w none) = more (record { ends = l; bytes = w }) none
-insides l (Shape.quiet q s) (more w ws) = more (record { ends = q .inside; bytes = w }) (insides l s ws)
+abbrev Ends : ℕ → Write → Type 0
+Ends n w = w .offset + length (w .bytes) ≤ n
+
+header-ends : (f : Bool) (h : List ℕ) {n : ℕ} → 128 ≤ n → All (Ends n) (pick f (headerWrites h) [])
+header-ends true h wide = more (header-first h wide .inside) (more (header-second h wide 0 .inside) (more (header-third h wide .inside) none))
+header-ends false h wide = none
+
+run-ends : (b : Book) (cs : List Call) → All Typed cs → Kept b → b .finished ≡ false → All (Ends (b .slotLength)) (bookWritten b cs)
+run-ends b cs t h d =
+    let w = run-written b cs t h d in
+    let e = same-run b cs .slot in
+    rw (w .all) (all-append (rw e at (all-each (λ x a. a .inside) (w .away))) (header-ends (bookRun b cs .finished) (fileHeader (bookRun b cs)) (omega (arith, h .wide))))
+
+insides : {n : ℕ} {ws : List Write} → All (Ends n) ws → All Written ws → All (Inside n) ws
+insides none none = none
+insides (more e es) (more w ws) = more (record { ends = e; bytes = w }) (insides es ws)
 
 pub run-inside : (b : Book) (cs : List Call) → All Typed cs → Kept b → b .finished ≡ false → All (Inside (b .slotLength)) (beginWrites ++ bookWritten b cs)
 unfolding any
 run-inside b cs t h d =
     let wide = h .wide in
     let first : Inside (b .slotLength) (write 15 (0 ∷ [])) = record { ends = omega arith; bytes = to-bytes (smalls (0 ∷ []) refl) } in
-    more first
-    (insides (omega arith) (run-shape b cs t h d) (run-bytes b cs t h))
+    more first (insides (run-ends b cs t h d) (run-bytes b cs t h))

@@ -1,10 +1,11 @@
+use native.Mathlib.Omega.{arith}
 use Rattle.cue_writer.proofs.CueCallLaws.{late, point, loop, range}
 use borrow.Author.Needs.{needs}
 use Rattle.cue_writer.proofs.is_bad.Statement.{statement}
 use Rattle.cue_writer.proofs.is_bad.Tie as tie
 
 returns : tie.Need-returns
-returns c = search late
+returns c = let a = c .before .args in late (a .start) (a .kind) (omega (arith, c .if1 .taken))
 
 enum-told : tie.Need-enum-told
 enum-told c = search needs

@@ -1,3 +1,4 @@
+use Prim.Native.Nat.{_<_}
 use native.Mathlib.Omega.{arith}
 use Rattle.estimate.proofs.EstimateCodeLaws.{length-10, length-13, length-fine}
 use borrow.Author.Needs.{needs}
@@ -5,7 +6,7 @@ use Rattle.estimate.proofs.length_due.Statement.{statement}
 use Rattle.estimate.proofs.length_due.Tie as tie
 
 returns : tie.Need-returns
-returns c = let a = c .before .args in length-10 (a .channels) (a .n) (omega (arith, c .if1 .taken))
+returns c = let h : c .before .args .n < 2 = omega arith in search length-10
 
 adpcm-bytes-requires : tie.Need-adpcm-bytes-requires
 adpcm-bytes-requires c κs = search needs

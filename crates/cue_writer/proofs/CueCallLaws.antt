@@ -1,17 +1,17 @@
 -- For the proof of cue: start and range length, the cue at its place, the answers in their order.
 use Prim.Native.Nat.{ℕ, zero, suc, _+_, _-_, _<_, _≤_}
 use mathlib.Core.Path.{_≡_, refl, ap, sym, _∙_}
-use mathlib.Core.Bool.{Bool, true, false}
+use mathlib.Core.Bool.{Bool, true, false, not}
 use mathlib.Core.List.{List, [], _∷_, _++_, append-assoc}
 use native.Mathlib.Omega.{arith}
 use native.Mathlib.Nat.{sub-zero}
-use borrow.Author.Tests.{lt-ltb, le-ltb, le-leb, lt-leb, ne-eqb}
-use lib.Dec.{ltb, eqb}
+use borrow.Author.Tests.{lt-ltb, le-ltb, le-leb, lt-leb, ne-eqb, leb-false}
+use lib.Dec.{ltb, leb, eqb}
 use lib.ListN.{length, take, drop, length-take}
 use lib.Seq.{take-take, take-nil}
-use Rattle.layout.specs.Choice.{_or_}
+use Rattle.layout.specs.Choice.{_or_, _and_}
 use Rattle.layout.specs.Lists.{firstIndex}
-use Rattle.layout.specs.Refusals.{startLimit, firstDue}
+use Rattle.layout.specs.Refusals.{due, firstDue, startLimit, cueLimit}
 use Rattle.layout.proofs.Cases.{by-cases}
 use Rattle.writer.specs.Loading.{zeroRange, before, has, insert, cueRefusal}
 use Rattle.writer.specs.declared.CueKind.{CueKind}
@@ -21,6 +21,7 @@ use Rattle.writer.specs.declared.HpsWriter.{HpsWriter}
 use Rattle.writer.specs.declared.Reply.the-variants.{Refused, Accepted}
 use Rattle.writer.specs.declared.Cued.{Cued}
 use Rattle.writer.specs.Calls.{held, withTable, afterCue, cueOf, cued, Good}
+use Rattle.writer.proofs.DueLaws.{passed-cue}
 use Rattle.writer.proofs.GoodLaws.{cue-kept}
 
 -- ---- Start and range length
@@ -56,7 +57,34 @@ drop-take (suc i) zero t = let z : 0 - suc i ≡ 0 = omega arith in rw z
 drop-take (suc i) (suc n) [] = sym (take-nil (suc n - suc i))
 drop-take (suc i) (suc n) (x ∷ t) = let z : suc n - suc i ≡ n - i = omega arith in rw z (drop-take i n t)
 
--- ---- The answers, in their order
+-- ---- The first number due
+
+abbrev dueBy : (blocks : ℕ) (bad equal : Bool) (count : ℕ) → ℕ
+dueBy n bad equal k = firstDue (due 21 (ltb 0 n) ∷ due 8 bad ∷ due 20 (not equal and leb cueLimit k) ∷ [])
+
+module _ (n : ℕ) (bad equal : Bool) (k : ℕ) where
+  pub cue-21 : 0 < n → 21 ≡ dueBy n bad equal k
+  unfolding firstDue
+  cue-21 h = rw (lt-ltb 0 n h)
+
+  module _ (none : n ≤ 0) where
+    pub cue-8 : bad ≡ true → 8 ≡ dueBy n bad equal k
+    unfolding firstDue
+    cue-8 h = rw (le-ltb 0 n none, h)
+
+    pub cue-equal : bad ≡ false → equal ≡ true → 0 ≡ dueBy n bad equal k
+    unfolding firstDue
+    cue-equal b h = rw (le-ltb 0 n none, b, h)
+
+    pub cue-20 : bad ≡ false → equal ≡ false → 128 ≤ k → 20 ≡ dueBy n bad equal k
+    unfolding firstDue
+    cue-20 b f h = rw (le-ltb 0 n none, b, f, le-leb 128 k h)
+
+    pub cue-fine : bad ≡ false → equal ≡ false → k < 128 → 0 ≡ dueBy n bad equal k
+    unfolding firstDue
+    cue-fine b f h = rw (le-ltb 0 n none, b, f, lt-leb 128 k h)
+
+-- ---- The answers
 
 -- What cue ensures of its result.
 abbrev Answers : HpsWriter → Cue → Cued → Type 0
@@ -64,6 +92,14 @@ Answers w c q = (q ≡ cued (cueOf w c)) × Good (q .writer)
 
 held-count : (w : HpsWriter) → Good w → length (held w) ≡ w .count
 held-count w g = length-take (w .count) (w .cues) ∙ omega (arith, g .few, g .table)
+
+-- none is due, and no equal cue is held
+pub room-left : (n : ℕ) (b f : Bool) (k r : ℕ) → r ≡ dueBy n b f k → r ≡ 0 → f ≡ false → k < 128
+room-left n b f k r e z h = leb-false 128 k (rw h at (passed-cue _ _ _ (sym e ∙ z) .no20))
+
+is-due : (w : HpsWriter) (c : Cue) → Good w → (b f : Bool) (r : ℕ) → b ≡ (ltb startLimit (c .start) or zeroRange (c .kind)) → f ≡ has c (held w)
+    → r ≡ dueBy (w .blocks) b f (w .count) → r ≡ cueRefusal (w .blocks) (held w) c
+is-due w c g b f r eb ef er = er ∙ rw (eb, ef, held-count w g)
 
 module _ (w : HpsWriter) (c : Cue) (g : Good w) {q : Cued} where
   and-good : q ≡ cued (cueOf w c) → Answers w c q
@@ -77,37 +113,24 @@ module _ (w : HpsWriter) (c : Cue) (g : Good w) {q : Cued} where
   unfolding cueOf
   accepts-as v e r h = and-good (e ∙ rw (r, h))
 
-  pub late-cue : q ≡ record { reply = Refused 21; writer = w } → 0 < w .blocks → Answers w c q
-  unfolding firstDue
-  late-cue e h = refuses-with 21 e (rw (lt-ltb 0 (w .blocks) h)) (λ z. omega arith)
+  module _ {b f : Bool} {r : ℕ} (eb : b ≡ (ltb startLimit (c .start) or zeroRange (c .kind))) (ef : f ≡ has c (held w)) (er : r ≡ dueBy (w .blocks) b f (w .count)) where
+    pub refused-cue : q ≡ record { reply = Refused r; writer = w } → (r ≡ 0 → ⊥) → Answers w c q
+    refused-cue e h = refuses-with r e (sym (is-due w c g b f r eb ef er)) h
 
-  module _ {b : Bool} (none : w .blocks ≤ 0) (eb : b ≡ (ltb startLimit (c .start) or zeroRange (c .kind))) where
-    pub bad-cue : q ≡ record { reply = Refused 8; writer = w } → b ≡ true → Answers w c q
-    unfolding firstDue
-    bad-cue e h = refuses-with 8 e (rw (le-ltb 0 (w .blocks) none, sym eb ∙ h)) (λ z. omega arith)
-
-    module _ {f : Bool} (fine : b ≡ false) (ef : f ≡ has c (held w)) where
+    module _ (none : r ≡ 0) where
       pub equal-cue : q ≡ record { reply = Accepted 0; writer = w } → f ≡ true → Answers w c q
-      unfolding firstDue afterCue
-      equal-cue e h =
-          let y = sym ef ∙ h in
-          accepts-as w e (rw (le-ltb 0 (w .blocks) none, sym eb ∙ fine, y)) (rw y)
+      unfolding afterCue
+      equal-cue e h = accepts-as w e (sym (is-due w c g b f r eb ef er) ∙ none) (rw (sym ef ∙ h))
 
-      pub no-room : q ≡ record { reply = Refused 20; writer = w } → f ≡ false → 128 ≤ w .count → Answers w c q
-      unfolding firstDue
-      no-room e h m =
-          refuses-with 20 e (rw (le-ltb 0 (w .blocks) none, sym eb ∙ fine, sym ef ∙ h, held-count w g, le-leb 128 (w .count) m)) (λ z. omega arith)
-
-      pub new-cue : {i : ℕ} {u : List Cue} → q ≡ record { reply = Accepted 0; writer = withTable w u (w .count + 1) } → f ≡ false → w .count < 128
+      pub new-cue : {i : ℕ} {u : List Cue} → q ≡ record { reply = Accepted 0; writer = withTable w u (w .count + 1) } → f ≡ false
           → i ≡ firstIndex (before c) (held w) → u ≡ take i (w .cues) ++ (c ∷ (take (w .count - i) (drop i (w .cues)) ++ drop (w .count + 1) (w .cues)))
           → Answers w c q
-      unfolding firstDue afterCue
-      new-cue {i} {u} e h m ei eu =
-          let z = sym ef ∙ h in
+      unfolding afterCue
+      new-cue {i} {u} e h ei eu =
           let il : i ≤ w .count = omega (arith, place-most c (held w), held-count w g) in
           let new : u ≡ insert c (held w) ++ drop (w .count + 1) (w .cues) =
           eu ∙ rw (inserted c (held w), ← ei, take-take i (w .count) (w .cues) il, drop-take i (w .count) (w .cues)) (simp append-assoc) in
-          accepts-as (withTable w u (w .count + 1)) e (rw (le-ltb 0 (w .blocks) none, sym eb ∙ fine, z, held-count w g, lt-leb 128 (w .count) m)) (rw (z, new))
+          accepts-as (withTable w u (w .count + 1)) e (sym (is-due w c g b f r eb ef er) ∙ none) (rw (sym ef ∙ h, new))
 
 pub place-inside : (w : HpsWriter) (c : Cue) (i : ℕ) → i ≡ firstIndex (before c) (held w) → i ≤ w .count
 place-inside w c i e = omega (arith, place-most c (held w), length-take (w .count) (w .cues))

@@ -8,10 +8,12 @@ use writer::Cued;
 use writer::HpsWriter;
 use writer::Reply;
 ghost use mathlib.Core.Path.{_≡_};
+ghost use mathlib.Core.Bool.{not};
+ghost use mathlib.Core.List.{[], _∷_};
 ghost use Prim.Native.Nat.{_+_};
-ghost use lib.Dec.{ltb};
-ghost use Rattle.layout.specs.Choice.{_or_};
-ghost use Rattle.layout.specs.Refusals.{startLimit};
+ghost use lib.Dec.{ltb, leb};
+ghost use Rattle.layout.specs.Choice.{_or_, _and_};
+ghost use Rattle.layout.specs.Refusals.{due, firstDue, startLimit, cueLimit};
 ghost use Rattle.writer.specs.Loading.{zeroRange};
 ghost use Rattle.writer.specs.Calls.{Good, cueOf, cued};
 
@@ -31,6 +33,25 @@ fn is_bad(start: u64, kind: CueKind) -> bool
         CueKind::Loop => false,
         CueKind::Range(n) => n == 0,
     }
+}
+
+// The first number due, 0 where none is: 21, 8, an equal cue, 20.
+fn cue_due(blocks: usize, bad: bool, equal: bool, count: usize) -> u32
+    ensures { λ r. ⌜ r ≡ firstDue (due 21 (ltb 0 blocks) ∷ due 8 bad ∷ due 20 (not equal and leb cueLimit count) ∷ []) ⌝ }
+{
+    if blocks > 0 {
+        return 21;
+    }
+    if bad {
+        return 8;
+    }
+    if equal {
+        return 0;
+    }
+    if count >= CUE_LIMIT {
+        return 20;
+    }
+    0
 }
 
 fn refused(w: HpsWriter, number: u32) -> Cued
@@ -57,20 +78,17 @@ pub fn cue(w: HpsWriter, c: Cue) -> Cued
     ensures { λ q. ⌜ q ≡ cued (cueOf w c) ⌝ }
     ensures { λ q. ⌜ Good (q .writer) ⌝ }
 {
-    if w.blocks > 0 {
-        return refused(w, 21);
-    }
     let kind = c.kind;
-    if is_bad(c.start, kind) {
-        return refused(w, 8);
-    }
+    let bad = is_bad(c.start, kind);
     let t = w.cues;
     let n = w.count;
-    if holds(t, n, c) {
-        return accepted(w);
+    let held = holds(t, n, c);
+    let r = cue_due(w.blocks, bad, held, n);
+    if r != 0 {
+        return refused(w, r);
     }
-    if n >= CUE_LIMIT {
-        return refused(w, 20);
+    if held {
+        return accepted(w);
     }
     let i = place_of(t, n, c);
     let u = put_in(t, n, i, c);

@@ -1,10 +1,13 @@
+use Prim.Native.Nat.{_<_}
+use native.Mathlib.Omega.{arith}
+use Rattle.layout.specs.Refusals.{startLimit}
 use Rattle.cue_writer.proofs.CueCallLaws.{late, point, loop, range}
 use borrow.Author.Needs.{needs}
 use Rattle.cue_writer.proofs.is_bad.Statement.{statement}
 use Rattle.cue_writer.proofs.is_bad.Tie as tie
 
 returns : tie.Need-returns
-returns c = search late
+returns c = let h : startLimit < c .before .args .start = omega arith in search late
 
 enum-told : tie.Need-enum-told
 enum-told c = search needs

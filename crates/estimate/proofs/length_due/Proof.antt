@@ -1,10 +1,12 @@
+use Prim.Native.Nat.{_<_}
+use native.Mathlib.Omega.{arith}
 use Rattle.estimate.proofs.EstimateCodeLaws.{length-10, length-13, length-fine}
 use borrow.Author.Needs.{needs}
 use Rattle.estimate.proofs.length_due.Statement.{statement}
 use Rattle.estimate.proofs.length_due.Tie as tie
 
 returns : tie.Need-returns
-returns c = search (length-10, needs)
+returns c = let h : c .before .args .n < 2 = omega arith in search length-10
 
 adpcm-bytes-requires : tie.Need-adpcm-bytes-requires
 adpcm-bytes-requires c κs = search needs

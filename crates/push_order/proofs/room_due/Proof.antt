@@ -25,16 +25,16 @@ module _ (slot at size lent : ℕ) where
   fine a h l = rw (le-ltb slot (at + size) (omega arith), le-ltb lent size l)
 
 returns : tie.Need-returns
-returns c = begins-past _ _ _ _ (c .if1 .taken)
+returns c = search begins-past
 
 returns-2 : tie.Need-returns-2
-returns-2 c = no-room _ _ _ _ (c .if2 .taken)
+returns-2 c = search no-room
 
 returns-3 : tie.Need-returns-3
-returns-3 c = short-lent _ _ _ _ (c .before .before .if1 .left) (c .before .if2 .left) (c .if3 .taken)
+returns-3 c = search short-lent
 
 returns-4 : tie.Need-returns-4
-returns-4 c = fine _ _ _ _ (c .before .before .if1 .left) (c .before .if2 .left) (c .if3 .left)
+returns-4 c = search fine
 
 pub room-due-spec : {M : Type 1} → statement M
 room-due-spec = tie.close (tie.spec returns returns-2 returns-3 returns-4)

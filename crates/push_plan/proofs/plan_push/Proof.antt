@@ -22,6 +22,17 @@ use Rattle.push_plan.proofs.next_offset.Reads as next-offset-reads
 use Rattle.push_plan.proofs.no_plan.Reads as no-plan-reads
 use Rattle.push_plan.proofs.second_context.Reads as second-context-reads
 
+-- ---- Where a number before 24 is due
+
+early-due-requires : tie.Need-early-due-requires
+early-due-requires c κs = search needs
+
+no-plan-requires : tie.Need-no-plan-requires
+no-plan-requires c κs = search needs
+
+returns : tie.Need-returns
+returns c = search (plan-early, needs)
+
 -- ---- What is known at the places of the code
 
 abbrev start : tie.Else1 → tie.Start
@@ -50,19 +61,7 @@ loop : (c : tie.After-loop-after)
     → c .loop-after .result ≡ loopFrom (start (c .before .before .before .before .before .before) .args .s) (start (c .before .before .before .before .before .before) .args .held) (start (c .before .before .before .before .before .before) .args .taken .asked) (start (c .before .before .before .before .before .before) .args .end) (start (c .before .before .before .before .before .before) .args .last)
 loop c = loop-is _ _ _ _ _ _ (c .before .loop-due .ensures) _ (c .loop-after .ensures)
 
--- ---- The needs
-
-early-due-requires : tie.Need-early-due-requires
-early-due-requires c κs = search needs
-
-no-plan-requires : tie.Need-no-plan-requires
-no-plan-requires c κs = search needs
-
-returns : tie.Need-returns
-returns c =
-    let s = c .before .before .before .before .before in
-    plan-early (s .args .s) (s .args .taken) (s .args .held) (s .args .end) (s .args .channels) (s .args .left) (s .args .right) (s .args .left-bytes) (s .args .right-bytes) (s .args .last) (s .args .lent)
-    _ (c .before .before .early-due .ensures) (c .before .if1 .taken) _ (c .no-plan .ensures)
+-- ---- The other needs
 
 data-size-requires : tie.Need-data-size-requires
 data-size-requires c κs = let h = early-none c in (h .left, h .right)

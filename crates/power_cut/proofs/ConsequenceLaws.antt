@@ -19,7 +19,10 @@ use Rattle.writer.specs.declared.HpsWriter.{HpsWriter}
 use Rattle.power_cut.specs.LoadingBook.{Block, Book, begun, endOfBlocks, numberDue, bookAnswer, bookAfter, bookAnswers, bookRun, blockOf, remainingOf, cuesOf}
 use Rattle.power_cut.specs.FinishedFile.{fileBytes}
 use Rattle.power_cut.specs.PowerCut.{opens, step, recordsOf, answersOf, AfterCut, Run, ReadsAs, PowerCut, FileIn, FinishedFile, EstimateBound}
-use Rattle.power_cut.specs.Consequences.{WholeList, begunOf, bookUpTo, bookOf, listWrites, CutOf, SameLength, BeforeBegin, NotFinished, WriteToCome, NoOtherAnswer, MostChannels, Begins, BegunGood, EachGood, OneAnswerEach, EachAnswer, FinishedLength, Finished, finishedRecord, FinishedOpens, EachBlockBack, NoBlockBack, EachRemaining, EachCueBack, CuesEnd, EachByte, EstimateEnough}
+use Rattle.power_cut.specs.Consequences.{WholeList, begunOf, bookUpTo, bookOf, listWrites, CutOf, answersTo, Finished, finishedRecord}
+use Rattle.power_cut.specs.Consequences.{SameLength, BeforeBegin, NotFinished, WriteToCome, NoOtherAnswer}
+use Rattle.power_cut.specs.Consequences.{MostChannels, Begins, BegunGood, EachGood, OneAnswerEach, EachAnswer, FinishedLength}
+use Rattle.power_cut.specs.Consequences.{FinishedOpens, EachBlockBack, NoBlockBack, EachRemaining, EachCueBack, CuesEnd, EachByte, EstimateEnough}
 use Rattle.power_cut.proofs.CutLaws.{taken-few}
 
 -- ---- Lists
@@ -70,10 +73,16 @@ given number m n e =
 module _ (theorem : PowerCut) where
   run : (l : WholeList) → Run (l .earlier) (begun (length (l .earlier)) (l .channels) (l .mode)) (begunOf l) (l .calls)
   unfolding PowerCut
-  run l = theorem (l .earlier) (l .slice) (l .channels) (l .fits) (l .mode) (l .lent) (l .buffer) .2 (l .begins) (l .calls) (l .typed)
+  run l = theorem (l .earlier) (l .slice) (l .channels) (omega (arith, l .fits)) (l .mode) (l .lent) (l .buffer) .2 (l .begins) (l .calls) (l .typed)
 
   at-cut : (l : WholeList) (taken : ℕ) (slot : List ℕ) → CutOf l taken slot → AfterCut (l .earlier) (bookOf l) (listWrites l) taken slot
   at-cut l taken slot h = run l .cut taken slot h
+
+  reads-as : (l : WholeList) (taken : ℕ) (slot : List ℕ) → CutOf l taken slot → bookOf l .finished ≡ true → taken ≡ length (listWrites l) → ReadsAs (bookOf l) slot
+  reads-as l taken slot h f e = at-cut l taken slot h .finished f e
+
+  answers-are : (l : WholeList) → answersTo l ≡ bookAnswers (begun (length (l .earlier)) (l .channels) (l .mode)) (l .calls)
+  answers-are l = run l .answers
 
   pub same-length : SameLength
   unfolding SameLength
@@ -87,11 +96,11 @@ module _ (theorem : PowerCut) where
 
   pub not-finished : NotFinished
   unfolding NotFinished
-  not-finished l f taken slot t h = at-cut l taken slot h .loading t (inl f)
+  not-finished l f taken slot t h = at-cut l taken slot h .loading (omega arith) (inl f)
 
   pub write-to-come : WriteToCome
   unfolding WriteToCome
-  write-to-come l taken slot t m h = at-cut l taken slot h .loading t (inr m)
+  write-to-come l taken slot t m h = at-cut l taken slot h .loading (omega arith) (inr m)
 
   pub no-other-answer : NoOtherAnswer
   unfolding NoOtherAnswer
@@ -105,7 +114,7 @@ module _ (theorem : PowerCut) where
       by-cases (bookOf l .finished)
       (λ f. by-cases (ltb taken (length (listWrites l)))
       (λ t. inr (inl (c .loading some (inr (ltb-true _ _ t)))))
-      (λ t. let n = ltb-false taken (length (listWrites l)) t in inr (inr (f, c .finished f (omega arith) .opening))))
+      (λ t. let n = ltb-false taken (length (listWrites l)) t in inr (inr (f, reads-as l taken slot h f (omega arith) .opening))))
       (λ f. inr (inl (c .loading some (inl f)))))
     where
       above : {n : ℕ} → (n ≡ 0 → ⊥) → 0 < n
@@ -135,11 +144,11 @@ module _ (theorem : PowerCut) where
 
   pub one-answer-each : OneAnswerEach
   unfolding OneAnswerEach
-  one-answer-each l = ap length (run l .answers) ∙ answers-length _ (l .calls)
+  one-answer-each l = ap length (answers-are l) ∙ answers-length _ (l .calls)
 
   pub each-answer : EachAnswer
   unfolding EachAnswer
-  each-answer l before after c e d = rw (run l .answers, e) (answer-at _ before after c d)
+  each-answer l before after c e d = rw (answers-are l, e) (answer-at _ before after c d)
 
   pub finished-length : FinishedLength
   unfolding FinishedLength EachAnswer
@@ -148,36 +157,36 @@ module _ (theorem : PowerCut) where
 
   -- ---- Once an accepted finish's last write has taken
 
-  reads-as : (l : WholeList) (slot : List ℕ) → Finished l slot → ReadsAs (bookOf l) slot
-  reads-as l slot f = at-cut l (length (listWrites l)) slot (f .1) .finished (f .0) refl
+  reads : (l : WholeList) (slot : List ℕ) → Finished l slot → ReadsAs (bookOf l) slot
+  reads l slot f = reads-as l (length (listWrites l)) slot (f .1) (f .0) refl
 
   pub finished-opens : FinishedOpens
   unfolding FinishedOpens
-  finished-opens l slot f = (reads-as l slot f .opening, reads-as l slot f .readable)
+  finished-opens l slot f = (reads l slot f .opening, reads l slot f .readable)
 
   pub each-block-back : EachBlockBack
   unfolding EachBlockBack blockOf
   each-block-back l slot f before after k e ch h =
-      reads-as l slot f .block ch (length before) ∙ rw (lt-leb _ ch h, ap (drop (length before)) e ∙ drop-append-seam before (k ∷ after))
+      reads l slot f .block ch (length before) ∙ rw (lt-leb _ ch h, ap (drop (length before)) e ∙ drop-append-seam before (k ∷ after))
 
   pub no-block-back : NoBlockBack
   unfolding NoBlockBack blockOf
   no-block-back l slot f ch i = (
-    λ h. reads-as l slot f .block ch i ∙ rw (le-leb _ ch h),
-    λ h p. reads-as l slot f .block ch i ∙ rw (lt-leb _ ch h, past-drop (bookOf l .blocks) i p),
+    λ h. reads l slot f .block ch i ∙ rw (le-leb _ ch h),
+    λ h p. reads l slot f .block ch i ∙ rw (lt-leb _ ch h, past-drop (bookOf l .blocks) i p),
   )
 
   pub each-remaining : EachRemaining
   unfolding EachRemaining remainingOf
-  each-remaining l slot f i = reads-as l slot f .remaining i
+  each-remaining l slot f i = reads l slot f .remaining i
 
   pub each-cue-back : EachCueBack
   unfolding EachCueBack
-  each-cue-back l slot f before after a e = reads-as l slot f .cue (length before) ∙ rw e (getD-append-seam before a after CueAnswer.ended)
+  each-cue-back l slot f before after a e = reads l slot f .cue (length before) ∙ rw e (getD-append-seam before a after CueAnswer.ended)
 
   pub cues-end : CuesEnd
   unfolding CuesEnd
-  cues-end l slot f n h = reads-as l slot f .cue n ∙ past (cuesOf (bookOf l)) n CueAnswer.ended h
+  cues-end l slot f n h = reads l slot f .cue n ∙ past (cuesOf (bookOf l)) n CueAnswer.ended h
 
 -- ---- From the finished file
 
@@ -185,7 +194,7 @@ pub each-byte : FinishedFile → EachByte
 unfolding FinishedFile EachByte
 each-byte theorem l slot f i =
     let b = bookOf l in
-    let r = theorem (l .earlier) (l .slice) (l .channels) (l .fits) (l .mode) (l .lent) (l .buffer) (l .begins) (l .calls) (l .typed) (f .0) slot (f .1) in
+    let r = theorem (l .earlier) (l .slice) (l .channels) (omega (arith, l .fits)) (l .mode) (l .lent) (l .buffer) (l .begins) (l .calls) (l .typed) (f .0) slot (f .1) in
     let n = r .long in (
       λ h. rw (r .inside) (List·getD-append (fileBytes b) _ 0 i (omega arith)),
       λ h.
@@ -201,5 +210,5 @@ each-byte theorem l slot f i =
 pub estimate-enough : EstimateBound → EstimateEnough
 unfolding EstimateBound EstimateEnough
 estimate-enough theorem l =
-    let r = theorem (l .earlier) (l .slice) (l .channels) (l .fits) (l .mode) (l .lent) (l .buffer) (l .begins) (l .calls) (l .typed) in
+    let r = theorem (l .earlier) (l .slice) (l .channels) (omega (arith, l .fits)) (l .mode) (l .lent) (l .buffer) (l .begins) (l .calls) (l .typed) in
     (λ n e. apart-answers (sym (r .1) ∙ e), λ n e. let k : r .0 ≡ n = same-given (sym (r .1) ∙ e) in omega (arith, r .2))

@@ -159,7 +159,8 @@ EachBlockBack =
     → (let bs = bookOf l .blocks in
     (before after : List Block) (k : Block) → bs ≡ before ++ (k ∷ after) → (channel : ℕ) → channel < bookOf l .channels
     → reads slot (finishedRecord l) channel (length before)
-    ≡ gave (firstLeft bs .rate) Adpcm (firstSide bs channel .coefficients) (firstSide bs channel .gain) (lengthOf (k .push)) (sideOf (k .push) channel .block .context) (dataAt k channel) (sideOf (k .push) channel .bytes) (length before + 1))
+    ≡ gave (firstLeft bs .rate) Adpcm (firstSide bs channel .coefficients) (firstSide bs channel .gain) (lengthOf (k .push)) (sideOf (k .push) channel .block .context)
+    (dataAt k channel) (sideOf (k .push) channel .bytes) (length before + 1))
 
 -- Past the last block it is the end; a channel that there is not gets 6 at every position.
 unfoldable pub NoBlockBack : Type 0

@@ -54,6 +54,12 @@ fn main() {
     );
     run(
         b"noise.slot",
+        b"refused-begin.script",
+        b"refused-begin.listing",
+        Ask::All,
+    );
+    run(
+        b"noise.slot",
         b"stereo.script",
         b"stereo.385.listing",
         Ask::Moment(385),

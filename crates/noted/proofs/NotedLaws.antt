@@ -11,8 +11,8 @@ use lib.Dec.{leb}
 use Rattle.layout.specs.Lists.{sum, put}
 use Rattle.layout.specs.Puts.{putAt}
 use Rattle.layout.proofs.FieldLaws.{failed}
-use Rattle.puts.proofs.PutLaws.{putAt-in, putAt-length}
-use Rattle.writer.specs.WritesAndCuttingRule.{Write, write, writesIn}
+use Rattle.puts.proofs.PutLaws.{putAt-in, putAt-length, putAt-none, putAt-next}
+use Rattle.writer.specs.WritesAndCuttingRule.{Write, write, handed, writesIn}
 use Rattle.writer.specs.Calls.{noPlace, whereAccepted}
 use Rattle.writer.specs.declared.Reply.{Reply}
 use Rattle.writer.specs.declared.Reply.the-variants.{Refused, Accepted}
@@ -44,6 +44,20 @@ writes-front [] xs ys h = refl
 writes-front (p ∷ ps) xs ys h =
     let few : p .length ≤ length xs = omega arith in
     rw (take-append-le (p .length) xs ys few, drop-append-le (p .length) xs ys few, writes-front ps (drop (p .length) xs) ys (omega (arith, length-drop (p .length) xs)))
+
+-- The bytes of writes that lie in a lent buffer.
+writes-handed : (ps : List Place) (lent : List ℕ) → sizes ps ≤ length lent → length (handed (writesIn ps lent)) ≡ sizes ps
+unfolding handed writesIn sizes sum
+writes-handed [] lent h = refl
+writes-handed (p ∷ ps) lent h =
+    let rest = drop (p .length) lent in
+    let few : p .length ≤ length lent = omega arith in
+    omega (arith, length-append (take (p .length) lent) (handed (writesIn ps rest)), length-take-le (p .length) lent few, writes-handed ps rest (omega (arith, length-drop (p .length) lent)))
+
+handed-join : (vs ws : List Write) → handed (vs ++ ws) ≡ handed vs ++ handed ws
+unfolding handed
+handed-join [] ws = refl
+handed-join (v ∷ vs) ws = rw (handed-join vs ws, append-assoc)
 
 -- ---- A write more
 
@@ -95,13 +109,13 @@ module _ {j : Noted} {kept : List ℕ} (l : Listed j kept) (p : Place) (bs : Lis
 
   pub notes-one : {b lent : List ℕ} → b ≡ putAt kept (j .total) bs → take (p .length) lent ≡ bs
       → Notes j kept lent (p ∷ []) (record { count = j .count + 1; total = j .total + p .length; places = set (j .places) (j .count) p }) b
-  unfolding notedIn former after sizes sum writesIn
+  unfolding notedIn former after sizes sum handed writesIn
   notes-one {b} {lent} e f =
       let i : b ≡ after = e ∙ putAt-in kept (j .total) bs (omega arith) in
       record {
         count = refl;
         total = omega arith;
-        long = ap length e ∙ putAt-length kept (j .total) bs;
+        put = e ∙ ap (putAt kept (j .total)) (sym (append-nil bs)) ∙ rw f;
         listed = listed-one e;
         is = rw (with-it, i, writes-join former (p ∷ []) after, ← l .bytes, its-bytes, kept-front, f);
       }
@@ -130,17 +144,28 @@ room-lent lent from here r = let h = r .handed in omega (arith, length-drop from
 
 -- ---- One after the other
 
+pub notes-long : {j q : Noted} {kept lent after : List ℕ} {ps : List Place} → Notes j kept lent ps q after → length after ≡ length kept
+notes-long {j} {kept = kept} h = ap length (h .put) ∙ putAt-length kept (j .total) _
+
 module _ {j : Noted} {kept lent : List ℕ} where
   pub notes-none : Listed j kept → Notes j kept lent [] j kept
-  unfolding sizes sum writesIn
-  notes-none l = record { count = omega arith; total = omega arith; long = refl; listed = l; is = sym (append-nil _) }
+  unfolding sizes sum handed writesIn
+  notes-none l = record { count = omega arith; total = omega arith; put = sym (putAt-none kept (j .total)); listed = l; is = sym (append-nil _) }
 
-  pub notes-then : {ps qs : List Place} {q r : Noted} {k₁ k₂ : List ℕ} {n : ℕ} → n ≡ sizes ps → Notes j kept lent ps q k₁ → Notes q k₁ (drop n lent) qs r k₂ → Notes j kept lent (ps ++ qs) r k₂
-  notes-then {ps} {qs} e a b =
+  pub notes-then : {ps qs : List Place} {q r : Noted} {k₁ k₂ : List ℕ} {n : ℕ} → n ≡ sizes ps → sizes (ps ++ qs) ≤ length lent → Notes j kept lent ps q k₁ → Notes q k₁ (drop n lent) qs r k₂
+      → Notes j kept lent (ps ++ qs) r k₂
+  notes-then {ps} {qs} {q} {r} {k₁} {k₂} {n} e room a b =
+      let vs = handed (writesIn ps lent) in
+      let ws = handed (writesIn qs (drop n lent)) in
+      let both = sizes-join ps qs in
+      let m : length vs ≡ sizes ps = writes-handed ps lent (omega arith) in
+      let o : length ws ≡ sizes qs = writes-handed qs (drop n lent) (omega (arith, length-drop n lent)) in
+      let t : q .total ≡ j .total + length vs = omega (arith, a .total) in
+      let fit : j .total + length (vs ++ ws) ≤ length kept = omega (arith, length-append vs ws, a .total, b .total, b .listed .inside, notes-long b, notes-long a) in
       record {
         count = omega (arith, a .count, b .count, length-append ps qs);
         total = omega (arith, a .total, b .total, sizes-join ps qs);
-        long = b .long ∙ a .long;
+        put = b .put ∙ rw (a .put, t, putAt-next kept (j .total) vs ws fit, e, ← handed-join (writesIn ps lent) (writesIn qs (drop (sizes ps) lent)), ← writes-join ps qs lent);
         listed = b .listed;
         is = b .is ∙ rw (a .is, e, writes-join ps qs lent, append-assoc);
       }
@@ -153,7 +178,7 @@ module _ {j : Noted} {kept lent : List ℕ} where
   room-then {ps} qs {n = n} e a r =
       let i = length-append ps qs in
       let m = sizes-join ps qs in
-      record { few = omega (arith, r .few, a .count); handed = omega (arith, r .handed, length-drop n lent); space = omega (arith, r .space, a .total, a .long) }
+      record { few = omega (arith, r .few, a .count); handed = omega (arith, r .handed, length-drop n lent); space = omega (arith, r .space, a .total, notes-long a) }
 
 -- ---- Three writes
 
@@ -177,7 +202,7 @@ module _ {j : Noted} {kept lent : List ℕ} {p q s : Place} (r : Room j kept len
       let r₁ = room-then (q ∷ s ∷ []) n a r in
       let b = f₂ (omega arith) (room-first (s ∷ []) r₁) in
       let c = f₃ few (rw drop-drop at (room-then (s ∷ []) m b r₁)) in
-      notes-then n a (notes-then m b (rw drop-drop c))
+      notes-then n (r .handed) a (notes-then m (r₁ .handed) b (rw drop-drop c))
 
 -- ---- A refused call's writes
 

@@ -4,7 +4,8 @@ use mathlib.Core.Path.{_≡_}
 use mathlib.Core.List.{List, _++_}
 use lib.ListN.{length, take, replicate}
 use Rattle.layout.specs.Lists.{sum}
-use Rattle.writer.specs.WritesAndCuttingRule.{Write, writesIn}
+use Rattle.layout.specs.Puts.{putAt}
+use Rattle.writer.specs.WritesAndCuttingRule.{Write, handed, writesIn}
 use Rattle.writer.specs.Calls.{noPlace}
 use Rattle.writer.specs.declared.Place.{Place}
 use Rattle.noted.specs.declared.Noted.{Noted}
@@ -34,10 +35,10 @@ pub record Room (j : Noted) (kept lent : List ℕ) (ps : List Place) : Type 0 wh
   pub handed : sizes ps ≤ length lent
   pub space : j .total + sizes ps ≤ length kept
 
--- They are noted after the others.
+-- They are noted after the others, and their bytes are put after those of the others.
 pub record Notes (j : Noted) (kept lent : List ℕ) (ps : List Place) (q : Noted) (after : List ℕ) : Type 0 where
   pub count : q .count ≡ j .count + length ps
   pub total : q .total ≡ j .total + sizes ps
-  pub long : length after ≡ length kept
+  pub put : after ≡ putAt kept (j .total) (handed (writesIn ps lent))
   pub listed : Listed q after
   pub is : notedIn q after ≡ notedIn j kept ++ writesIn ps lent

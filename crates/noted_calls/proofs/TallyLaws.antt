@@ -22,7 +22,7 @@ use Rattle.writer.proofs.WriteLaws.{bytes-length}
 use Rattle.writer.proofs.ServerLaws.{begin-place, push-place}
 use Rattle.noted.specs.Noted.{sizes, notedIn, noneNoted, Listed, Room, Notes}
 use Rattle.noted.specs.declared.Noted.{Noted}
-use Rattle.noted.proofs.NotedLaws.{none-listed}
+use Rattle.noted.proofs.NotedLaws.{none-listed, notes-long}
 use Rattle.noted_calls.specs.NotedCalls.{lentOf, Tally, MadeBy, Begun}
 
 -- The writes that are handed out lie in the lent buffer.
@@ -63,7 +63,7 @@ module _ (n : ℕ) (w : HpsWriter) (lent : List ℕ) (next : HpsWriter) (m : ℕ
   tally-after : {q : Noted} {after : List ℕ} → Tally j w kept → Counts → Notes j kept (outcome n w lent next m ws .lent) (outcome n w lent next m ws .places) q after → Tally q (outcome n w lent next m ws .writer) after
   unfolding sizes sum
   tally-after {q} {after} t c h =
-      let long = h .long in
+      let long = notes-long h in
       let room = t .room in
       by-cases (eqb n 0)
       (λ e.
@@ -140,6 +140,7 @@ module _ (w : HpsWriter) (p : Push) (lent : List ℕ) {j : Noted} {kept : List �
           good = good;
           tally = rw e (tally-after n w lent (afterPush w p) 0 (block ∷ []) j kept t push-counts k);
           is = k .is;
+          put = k .put;
         }
 
 -- ---- Finish
@@ -193,6 +194,7 @@ module _ (w : HpsWriter) (lent : List ℕ) {j : Noted} {kept : List ℕ} (g : Go
           good = good;
           tally = rw e (tally-after number w lent (afterFinish w) (w .offset) header j kept t finish-counts k);
           is = k .is;
+          put = k .put;
         }
 
 -- ---- Begin
@@ -221,13 +223,14 @@ module _ (slot ch : ℕ) (mode : Looping) (lent : List ℕ) {kept : List ℕ} {j
             let b : q .total ≡ 0 + (1 + 0) = rw z at (n .total) in
             rw (e, z) (record {
               listed = n .listed;
-              room = omega (arith, n .long);
+              room = omega (arith, notes-long n);
               small = small;
               many = λ u. omega arith;
               bytes = λ u. omega arith;
             }))
             (λ z. let x : refused (beginRefusal slot ch (length lent)) ≡ accepted 0 = rw z at a in let y : _≡_ {A = ℕ} 0 1 = cc in absurd (omega arith));
-        is = λ room a. k room .is;
+        is = λ room. k room .is;
+        put = λ room. k room .put;
       }
 
 -- ---- The lent buffer

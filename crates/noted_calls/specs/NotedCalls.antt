@@ -4,6 +4,8 @@ use mathlib.Core.Path.{_≡_}
 use mathlib.Core.Bool.{false}
 use mathlib.Core.List.{List, _++_}
 use lib.ListN.{length, replicate}
+use Rattle.layout.specs.Puts.{putAt}
+use Rattle.writer.specs.WritesAndCuttingRule.{handed}
 use Rattle.writer.specs.Loading.{accepted}
 use Rattle.writer.specs.Calls.{Outcome, writes, replyOf, Good}
 use Rattle.writer.specs.declared.HpsWriter.{HpsWriter}
@@ -28,18 +30,20 @@ pub record Tally (j : Noted) (w : HpsWriter) (kept : List ℕ) : Type 0 where
   pub many : w .finished ≡ false → j .count ≡ suc (w .blocks)
   pub bytes : w .finished ≡ false → j .total + 127 ≡ w .offset
 
--- What a call leaves: record and answer are the call's, and its writes are noted after the others.
+-- What a call leaves: record and answer are the call's, and its writes are noted after the others, with their bytes; a refused call's are none.
 pub record MadeBy (o : Outcome) (j : Noted) (kept : List ℕ) (m : Made) (after : List ℕ) : Type 0 where
   pub writer : m .writer ≡ o .writer
   pub reply : m .reply ≡ replyOf (o .answer)
   pub good : Good (m .writer)
   pub tally : Tally (m .noted) (m .writer) after
   pub is : notedIn (m .noted) after ≡ notedIn j kept ++ writes o
+  pub put : after ≡ putAt kept (j .total) (handed (writes o))
 
--- What begin leaves; where it is accepted, for a slot of at most 65,536 bytes, its write is noted.
+-- What begin leaves: its write alone is noted, or none where it is refused. Accepted for a slot of at most 65,536 bytes, it leaves room for all that may come.
 pub record Begun (slot : ℕ) (o : Outcome) (kept : List ℕ) (m : Made) (after : List ℕ) : Type 0 where
   pub writer : m .writer ≡ o .writer
   pub reply : m .reply ≡ replyOf (o .answer)
   pub good : Good (m .writer)
   pub tally : 65664 ≤ length kept → slot ≤ 65536 → o .answer ≡ accepted 0 → Tally (m .noted) (m .writer) after
-  pub is : 65664 ≤ length kept → o .answer ≡ accepted 0 → notedIn (m .noted) after ≡ writes o
+  pub is : 65664 ≤ length kept → notedIn (m .noted) after ≡ writes o
+  pub put : 65664 ≤ length kept → after ≡ putAt kept 0 (handed (writes o))

@@ -47,46 +47,73 @@ POINT, LOOP, RANGE = range(3)
 DISABLED, ENABLED, AUTO = range(3)
 
 
+def begin_order(slot, channels, lent):
+    return (3, channels not in (1, 2)), (7, slot > 16777216 or slot < 192), (14, lent < 1)
+
+
 class Loader:
-    """The calls. Each gives its writes as pairs of an offset and bytes, or raises Refused."""
+    """The calls. Each gives its writes as pairs of an offset and bytes, or raises Refused. Its order has each number, and whether that rule is broken."""
 
     def __init__(self, slot, channels, mode, lent):
-        first_due((3, channels not in (1, 2)), (7, slot > 16777216 or slot < 192), (14, lent < 1))
+        first_due(*begin_order(slot, channels, lent))
         self.slot, self.channels, self.mode = slot, channels, mode
         self.cues, self.left, self.blocks, self.finished = [], None, [], False
         self.ended, self.base, self.at, self.id, self.loop, self.sum = False, 0, 128, 1, None, 0
         self.begun = [(15, b"\0")]
 
+    def has(self, start, kind, length, name):
+        """An equal cue"""
+        return (start, kind, length if kind == RANGE else 0, name) in self.cues
+
+    def cue_order(self, start, kind, length, name):
+        full = len(self.cues) == 128 and not self.has(start, kind, length, name)
+        return (21, self.blocks != []), (8, start > 2147483647 or (kind == RANGE and length == 0)), (20, full)
+
     def cue(self, start, kind, length, name):
-        entry = (start, kind, length if kind == RANGE else 0, name)
-        first_due((21, self.blocks), (8, start > 2147483647 or (kind == RANGE and length == 0)))
-        if entry in self.cues:
-            return []
-        first_due((20, len(self.cues) == 128))
-        self.cues.append(entry)
-        self.cues.sort()
+        first_due(*self.cue_order(start, kind, length, name))
+        if not self.has(start, kind, length, name):
+            self.cues.append((start, kind, length if kind == RANGE else 0, name))
+            self.cues.sort()
         return []
 
-    def push(self, channels, sides, last, lent):
-        first_due((26, self.ended), (29, channels != self.channels))
-        used = sides[:channels]
-        one = used[0]
+    def taken(self, length, last):
+        """The cues that a block of this length takes"""
+        waiting = self.waiting if self.blocks else self.cues
+        return [c for c in waiting if last or c[0] < self.base + samples(length)]
+
+    def whole(self, used, last):
+        """How many bytes a block with these sides has"""
+        points = sum(c[1] != LOOP for s in used[:1] for c in self.taken(s.length, last))
+        return 32 + up(8 * points) + sum(up(len(s.data)) for s in used)
+
+    def push_order(self, channels, sides, last, lent):
+        used, one = sides[:channels], sides[0]
         limit = 65536 if channels == 1 else 32768
         first = self.blocks[0] if self.blocks else used
-        first_due(
+        whole = self.whole(used, last)
+        return (
+            (26, self.ended),
+            (29, channels != self.channels),
             (25, len(self.blocks) == 512),
             (15, any(s.rate != one.rate for s in used)),
-            (22, one.rate != first[0].rate),
+            (22, self.blocks != [] and one.rate != first[0].rate),
             (9, one.rate == 0),
             (12, any(s.length != one.length for s in used)),
             (10, one.length < 2),
             (13, bytes_for(one.length) > limit),
             (11, any(len(s.data) != bytes_for(s.length) for s in used)),
-            (23, any(s.coefficients != f.coefficients for s, f in zip(used, first))))
+            (23, any(s.coefficients != f.coefficients for s, f in zip(used, first))),
+            (24, self.at + whole > self.slot),
+            (14, lent < whole))
+
+    def push(self, channels, sides, last, lent):
+        first_due(*self.push_order(channels, sides, last, lent))
+        used = sides[:channels]
+        one = used[0]
         if not self.blocks:
             self.waiting = list(self.cues)
         end = self.base + samples(one.length)
-        taken = [c for c in self.waiting if last or c[0] < end]
+        taken = self.taken(one.length, last)
         block_loops = any(c[1] == LOOP for c in taken)
         if self.mode == DISABLED:
             block_loops = False
@@ -94,8 +121,7 @@ class Loader:
             block_loops = last or end > 0
         table = [c for c in taken if c[1] != LOOP]
         size = sum(up(len(s.data)) for s in used)
-        whole = 32 + up(8 * len(table)) + size
-        first_due((24, self.at + whole > self.slot), (14, lent < whole))
+        whole = self.whole(used, last)
         loop = self.loop if self.loop is not None else (self.at if block_loops else None)
         following = (END if loop is None else loop) if last else self.at + whole
         contexts = [s.context for s in used] + [(0, 0, 0)]
@@ -113,8 +139,11 @@ class Loader:
         self.blocks.append(used)
         return write
 
+    def finish_order(self, lent):
+        return (26, self.finished), (27, self.blocks == []), (28, not self.ended), (14, lent < 128)
+
     def finish(self, lent):
-        first_due((26, self.finished), (27, not self.blocks), (28, not self.ended), (14, lent < 128))
+        first_due(*self.finish_order(lent))
         header = b" HALPST\0" + struct.pack(">II", self.blocks[0][0].rate, self.channels)
         for side in self.blocks[0]:
             header += struct.pack(">HHIII16hHHhh", 1, 0, 2, self.sum - 1, 2, *side.coefficients, side.gain, *side.context)

@@ -6,12 +6,13 @@ A case has a kind (1 slot, 2 loading, 3 estimate), a length and so many bytes; n
             these two, the answer (76 bytes: of the addresses remaining the refusal or 0, and the addresses; of the block read the refusal, 0 for a block or
             4,294,967,295 for the end, by how much the position moved on, rate, format, length, coefficients, gain, context), the data's length and the data
   loading   steps, each with its length before it (loadings.py says what they hold)
-  estimate  the refusal or 0; how many blocks (1, 512 or 513), the length of each, channels, p; the estimate
+  estimate  the refusal or 0; how many blocks (1, 2, 512 or 513), the length of each (u64), of the second where there are 2 (u64), channels, p; the estimate
 
 The answers are the Rust's, and document 01's where docs/DIFFERENCES.md has a difference: D2 and D3 are in the oracle's `key`; D5: a channel not below
 the count is refused with 6; D7: the Rust gives no coefficients, gain and context for a PCM block, so they are those of its channel and of its block's
 header; D9a: positions past the end. In mono the second channel is zeros. The estimate is not in the Rust: its answers are by document 01's formula.
 """
+import itertools
 import os
 import re
 import struct
@@ -19,7 +20,8 @@ import subprocess
 from collections import Counter
 
 from inputs import END
-from loadings import NAMES, steps
+from loadings import NAMES, made_of
+from orders import LISTED, bytes_for, up
 
 SLOT, LOADING, ESTIMATE = 1, 2, 3
 PROGRAMS = {SLOT: "replay", LOADING: "replay_loads", ESTIMATE: "replay"}
@@ -124,33 +126,72 @@ def answer_at(made, number):
 
 # ---- Loadings
 
+class Counts(Counter):
+    """How often a thing was met; and the rules of push that were broken at once: channels, whether a block was pushed before, the number due, and one or two others."""
+
+    def __init__(self):
+        super().__init__()
+        self.together = set()
+
+    def add(self, one):
+        """A call that was refused."""
+        due, *others = one.rules
+        self[f"{one.call} refused with {due}"] += 1
+        if one.theirs is not None:
+            self[f"{one.call} given to the Rust"] += 1
+            if one.theirs != due:
+                self[f"{one.call} with {due} where the Rust has {one.theirs or 'none'} ({LISTED[due, one.theirs]})"] += 1
+        if others:
+            self[f"{one.call} that breaks {min(len(others) + 1, 3)}{' or more' if len(others) > 1 else ''} rules"] += 1
+        if one.call == "push":
+            for count in (1, 2):
+                self.together |= {(one.channels, one.later, due, *rest) for rest in itertools.combinations(others, count)}
+
+
 def loading_case(oracle, loading, counts):
-    made, file, _ = steps(oracle, loading)
-    for one in made:
+    made = made_of(oracle, loading)
+    for one in made.steps:
         kind, due = struct.unpack_from(">II", one)
         if NAMES[kind] not in ("content", "bytes"):
             counts["calls"] += 1
-            counts[f"{NAMES[kind]} {'accepted' if due == 0 else f'refused with {due}'}"] += 1
-    counts["finished files"] += file != b""
-    counts["bytes of finished files"] += len(file)
-    return case(LOADING, b"".join(struct.pack(">I", len(one)) + one for one in made))
+            counts[f"{NAMES[kind]} accepted"] += due == 0
+    for one in made.refused:
+        counts.add(one)
+    counts["finished files"] += made.file != b""
+    counts["bytes of finished files"] += len(made.file)
+    return case(LOADING, b"".join(struct.pack(">I", len(one)) + one for one in made.steps))
 
 
 # ---- The estimate
 
-def estimate_case(blocks, length, channels, p, due):
-    size = (length + 1) // 2
-    told = 128 + blocks * (32 + channels * ((size + 31) // 32 * 32)) + 32 * p if due == 0 else 0
-    return case(ESTIMATE, struct.pack(">5IQ", due, blocks, length, channels, p, told))
+def estimate_order(lengths, channels):
+    """Order: 3, 5, then per length 10, 13."""
+    yield 3, channels not in (1, 2)
+    yield 5, len(lengths) > 512
+    for n in lengths:
+        yield 10, n < 2
+        yield 13, bytes_for(n) > 65536 // channels
+
+
+def estimate_case(blocks, length, channels, p, other=None):
+    lengths = [length] * blocks if other is None else [length, other]
+    due = next((number for number, due in estimate_order(lengths, channels) if due), 0)
+    told = 128 + sum(32 + channels * up(bytes_for(n)) for n in lengths) + 32 * p if due == 0 else 0
+    return case(ESTIMATE, struct.pack(">IIQQIIQ", due, blocks, length, other or 0, channels, p, told))
 
 
 def estimates():
-    """At its limits. Order: 3, 5, then per length 10, 13."""
-    for blocks, length, channels, p, due in (
-            (1, 2, 1, 0, 0), (1, 16, 2, 1, 0), (512, 2, 1, 4294967295, 0), (512, 65536, 2, 4294967295, 0), (512, 131072, 1, 128, 0), (513, 2, 1, 0, 5),
-            (513, 0, 1, 0, 5), (513, 2, 0, 0, 3), (513, 2, 3, 0, 3), (1, 0, 1, 0, 10), (1, 1, 2, 0, 10), (1, 131072, 1, 0, 0), (1, 131073, 1, 0, 13),
-            (1, 65536, 2, 0, 0), (1, 65537, 2, 0, 13), (512, 4294967295, 1, 4294967295, 13)):
-        yield estimate_case(blocks, length, channels, p, due)
+    """At its limits, and with two and three rules broken at once."""
+    most = 4294967295
+    for blocks, length, channels, p in (
+            (1, 2, 1, 0), (1, 16, 2, 1), (512, 2, 1, most), (512, 65536, 2, most), (512, 131072, 1, 128), (513, 2, 1, 0), (513, 2, 0, 0), (513, 2, 3, 0),
+            (1, 0, 1, 0), (1, 1, 2, 0), (1, 131072, 1, 0), (1, 131073, 1, 0), (1, 65536, 2, 0), (1, 65537, 2, 0), (512, most, 1, most),
+            (1, 2**62 + 2, 1, 0), (1, 2**63 + 2, 2, 0), (1, 2**64 - 1, 1, 0), (512, 2**62, 2, 0)):
+        yield estimate_case(blocks, length, channels, p)
+    for blocks, length, channels in itertools.product((1, 513), (0, 1, 131073, 2**62 + 2), (0, 1, 3)):
+        yield estimate_case(blocks, length, channels, 0)
+    for length, other in ((2, 16), (16, 131072), (0, 131073), (131073, 0), (1, 131073), (131073, 1), (2, 1), (2, 131073), (2, 2**62 + 2), (2**62 + 2, 0)):
+        yield estimate_case(2, length, 1, 0, other)
 
 
 # ---- The programs

@@ -42,6 +42,11 @@ def ending_in_mono(program, lines):
     return ending(program, lines).replace(RATE, "22")
 
 
+def ending_in_two(program, lines):
+    """The same where its sides have different rates: it is 15 then."""
+    return ending(program, lines).replace(RATE, "15")
+
+
 def loaded(look):
     """How a loading ended, and what `look` finds in its file."""
 
@@ -64,6 +69,11 @@ def size(program, file):
 
 def end_address(program, file):
     return f"end address {word(file, 24)}"
+
+
+def like_a_file(program, file):
+    alike = program.ask("load", mono(left(2))) == [f"OK {file.hex()}"]
+    return "the file of [2]" if alike else "another file"
 
 
 def end_addresses(program, file):
@@ -259,6 +269,7 @@ def loading():
     yield Entry("D17", "stereo with one side longer", [
         load("left [2] [2], right [2]", stereo(left(2), left(2), right(2)), "29", "12", ending),
         load("left [2], right [2] [2]", stereo(left(2), right(2), right(2)), "29", "12", ending),
+        load("left [2] [2, rate 2], right [2]", stereo(left(2), left(2, rate=2), right(2)), "29", "12", ending),
     ])
     yield Entry("D18", "slot length, lent buffer and last mark", [],
                 "HpsWriter takes none of them, nor a channel count as a number, nor a cue after a block: "
@@ -282,6 +293,43 @@ def loading():
         load("the same and [2]", mono(*many, left(2)), "11", "OK, end address 00000001", loaded(end_address)),
         load("with overflow checks", mono(*many, left(2)), "11", "PANIC", ending, "checked"),
     ])
+    # "13 over 65,536 bytes (mono) or 32,768 per channel (stereo)"; of the order only 26, 29, 25, 15, 22, 9, 12 and 10 come earlier.
+    far, byte = 2**62, b"\0"
+    yield Entry("D21", "a length of 2^62 or more", [
+        load("[2^62, no data]", mono(left(far, b"")), "13", "OK, end address ffffffff", loaded(end_address)),
+        load("[2^62 + 2, 1 byte]", mono(left(far + 2, byte)), "13", "OK, the file of [2]", loaded(like_a_file)),
+        load("[2^62 + 2, 1 byte], with overflow checks", mono(left(far + 2, byte)), "13", "PANIC", ending, "checked"),
+        load("[2^63 + 2, 1 byte]", mono(left(2 * far + 2, byte)), "13", "OK, the file of [2]", loaded(like_a_file)),
+        load("stereo, [2^62 + 2, 1 byte]", stereo(left(far + 2, byte), right(far + 2, byte)), "13", "OK, 224 bytes", loaded(size)),
+        load("[2] [2^62 + 2, 1 byte, coefficients 1]", mono(left(2), left(far + 2, byte, coefficients=1)), "13", "23", ending),
+        load_both("[2^62 - 1, 1 byte]", mono(left(far - 1, byte)), "13", ending),
+        load_both("[2^62 + 131,073, 1 byte]", mono(left(far + 131073, byte)), "13", ending),
+        load_both("[2^64 - 1, 1 byte]", mono(left(4 * far - 1, byte)), "13", ending),
+    ])
+    # "Order: 26, 29, 25, 15, 22, 9, 12, 10, 13, 11, 23, 24, 14.": 11 before 23.
+    yield Entry("D22", "data of another length, and other coefficients", [
+        load("[2] [2, no data, coefficients 1]", mono(left(2), left(2, b"", coefficients=1)), "11", "23", ending),
+    ])
+    # The same sentence: 10 before 23.
+    yield Entry("D23", "length 0 or 1, and other coefficients", [
+        load("[2] [0, coefficients 1]", mono(left(2), left(0, coefficients=1)), "10", "23", ending),
+        load("[2] [1, coefficients 1]", mono(left(2), left(1, coefficients=1)), "10", "23", ending),
+    ])
+    # The same sentence: 25 before all but 26 and 29, and 26 before all.
+    yield Entry("D24", "a 513th push that breaks a later rule", after(512, "25"))
+    yield Entry("D25", "a push after the last block that breaks a later rule", after(1, "26"))
+
+
+def after(count, due):
+    """A push that breaks a rule which the Rust has, after so many blocks."""
+    one, both_sides = [left(2)] * count, [left(2), right(2)] * count
+    return [
+        load("right side of rate 2", stereo(*both_sides, left(2), right(2, rate=2)), due, "15", ending_in_two),
+        load("rate 2", mono(*one, left(2, rate=2)), due, "22", ending_in_mono),
+        load("right side of length 3", stereo(*both_sides, left(2), right(3)), due, "12", ending),
+        load("length 131,073, no data", mono(*one, left(131073, b"")), due, "13", ending),
+        load("coefficients 1", mono(*one, left(2, coefficients=1)), due, "23", ending),
+    ]
 
 
 def same_in_both():
@@ -359,6 +407,17 @@ def same_in_both():
                   "BLCK          0        128         16         14          1\n"
                   "LOOP                    0\n"
                   "CUEP                    5          1", loaded(exact_listing)),
+    ])
+    # "Order: 26, 29, 25, 15, 22, 9, 12, 10, 13, 11, 23, 24, 14."
+    long = 131073
+    yield Entry("S14", "two rules broken at once", [
+        load_both("22 and 13", mono(left(2), left(long, b"", rate=2)), "22", ending_in_mono),
+        load_both("22 and 23", mono(left(2), left(2, rate=2, coefficients=1)), "22", ending_in_mono),
+        load_both("13 and 23", mono(left(2), left(long, b"", coefficients=1)), "13", ending),
+        load_both("15 and 9", stereo(left(2, rate=0), right(2)), "15", ending_in_two),
+        load_both("9 and 12", stereo(left(2, rate=0), right(3, rate=0)), "9", ending),
+        load_both("12 and 13", stereo(left(long, b""), right(2)), "12", ending),
+        load_both("12 and 23", stereo(left(2), right(2), left(2, coefficients=1), right(3)), "12", ending),
     ])
 
 

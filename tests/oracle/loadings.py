@@ -1,22 +1,26 @@
 """Loadings to compare: lists of calls over a slot's earlier content, with calls among them that must be refused.
 
-What is accepted is given to the Rust (`oracle load`): the slot must then begin with its file, and go on with the earlier content. A push that the Rust
-has an error for (9, 12, 13, 15, 22, 23) is given to it too, after the blocks accepted before, and its error is the number that we must refuse with; so
-is a stream without a block (27). The other refused calls break one rule of document 01 each, and their numbers are its (docs/DIFFERENCES.md: D9 to D11,
-D13 to D15, D17, D18).
+What is accepted is given to the Rust (`oracle load`): the slot must then begin with its file, and go on with the earlier content. A refused call has the
+number that is due by document 01 (tests/cut/model.py). A refused push is given to the Rust too, after the blocks accepted before it, whichever and however
+many rules it breaks; so is a refused cue, and a stream without a block (27). The Rust must answer by its own order, and where its answer is not document
+01's the difference must be one that is listed (orders.py). Not given to it are begin, 21, 28, and a push of two channels in mono: it has no such calls.
 
 A step is a call or a part of the slot; numbers are u32, big-endian. 0: 1 content, 2 begin, 3 cue, 4 push, 5 finish, 6 the slot must have these bytes.
 4: the number of the refusal, or 0. 8: the slot's length; of content and bytes their offset. 28: of how many bytes the lent buffer is. Then, by kind:
   content, bytes  12 how many, 32 the bytes
   begin           12 channels, 16 mode (0 Disabled, 1 Enabled, 2 Auto)
   cue             12 kind (0 Point, 1 Loop, 2 Range), 16 start (u64), 32 name, 36 the range's length (u64)
-  push            12 channels, 16 last, 20 and 24 how many bytes of data, 32 the left side: rate, length, 16 coefficients, gain and context (48 bytes),
-                  and the data; then the right side, if there are two channels
+  push            12 channels, 16 last, 20 and 24 how many bytes of data, 32 the left side: rate, length (u64), 16 coefficients, gain and context (52
+                  bytes), and the data; then the right side, if there are two channels
   finish          12 the finished length
 """
+import itertools
 import random
 import struct
+from collections import Counter
 from dataclasses import dataclass, replace
+
+from orders import LISTED, PUSH_ORDER, Loader, begin_order, broken, first_of, rust_cue, rust_push, samples, together, up
 
 MODES = ("disabled", "enabled", "auto")
 KINDS = ("point", "loop", "range")
@@ -36,7 +40,7 @@ class Side:
     data: bytes
 
     def packed(self):
-        return struct.pack(">II16hHHhh", self.rate, self.length, *self.coefficients, self.gain, *self.context)
+        return struct.pack(">IQ16hHHhh", self.rate, self.length, *self.coefficients, self.gain, *self.context)
 
     def described(self, side):
         listed = ",".join(str(c) for c in self.coefficients)
@@ -45,7 +49,22 @@ class Side:
 
 
 def resized(side, length):
-    return replace(side, length=length, data=side.data.ljust((length + 1) // 2, b"\x5a")[:(length + 1) // 2])
+    """With as many bytes as the length wants; a length that is far too long has a few."""
+    size = (length + 1) // 2 if length < 200000 else (length % 64 + 1) // 2
+    return replace(side, length=length, data=side.data.ljust(size, b"\x5a")[:size])
+
+
+@dataclass(frozen=True)
+class Push:
+    channels: int
+    left: Side
+    right: Side
+    last: bool
+    lent: int = LENT
+
+    def arguments(self):
+        """As the model takes them."""
+        return self.channels, [self.left, self.right], self.last, self.lent
 
 
 @dataclass(frozen=True)
@@ -55,9 +74,9 @@ class Loading:
     cues: tuple  # start, kind, range length, name
     blocks: tuple  # pairs of sides
     pushes: int  # how many blocks are pushed; if all are, the last is marked and finish called
-    spare: int  # how many bytes the slot has beyond the file
+    spare: int  # how many bytes the slot has beyond the last block that is pushed
     earlier: str  # "noise", "file" or "zeros"
-    refused: tuple = ()  # where and what: (place, name) for one rule broken, (place, set of names) for pushes that the Rust is asked of
+    refused: tuple = ()  # where and what: (place, names of WAYS) before push `place`, after the last ("last") or after finish ("finished"); or (call, ())
     seed: int = 0  # of the noise
 
 
@@ -65,15 +84,20 @@ class Disagreement(Exception):
     """The Rust's answer is none that document 01 and docs/DIFFERENCES.md let it have."""
 
 
+class Unbroken(Exception):
+    """A push does not break the rules that it was made to break."""
+
+
 # ---- The Rust's answers
 
 def description(loading, blocks, cues=()):
+    """A right side that is None is not there."""
     lines = [f"mode {MODES[loading.mode]}", f"channels {loading.channels}"]
     for start, kind, length, name in cues:
         lines.append(f"cue {KINDS[kind]}{f':{length}' if kind == 2 else ''} {start} {name}")
     for left, right in blocks:
         lines.append(left.described("left"))
-        if loading.channels == 2:
+        if loading.channels == 2 and right is not None:
             lines.append(right.described("right"))
     return ";".join(lines)
 
@@ -85,15 +109,22 @@ def whole_file(oracle, loading):
     return bytes.fromhex(answer[3:])
 
 
-def mapped(oracle, loading, blocks):
-    """The number of document 01 for the Rust's error on the last of these blocks. Of its one error for two numbers (D16) it is 15 where the sides differ."""
-    number = oracle.ask("load", description(loading, blocks))[0].split()[0]
-    if number == "InconsistentSampleRate":
+def ending(oracle, loading, blocks, cues=()):
+    """How the Rust ends: 0 if it accepts all, else the number of document 01 for its error, of the two that InconsistentSampleRate has (D16) 15 where the
+    sides of the last block differ; or PANIC."""
+    word = oracle.ask("load", description(loading, blocks, cues))[0].split()[0]
+    if word == "InconsistentSampleRate":
         left, right = blocks[-1]
-        number = "15" if loading.channels == 2 and left.rate != right.rate else "22"
-    if not number.isdigit():
-        raise Disagreement(f"the Rust ends with {number} where it should refuse")
-    return int(number)
+        return 15 if loading.channels == 2 and left.rate != right.rate else 22
+    return 0 if word == "OK" else int(word) if word.isdigit() else word
+
+
+def held(call, due, theirs, own):
+    """Holds the Rust's answer to its own order, and its difference from document 01's number to the list."""
+    if theirs != first_of(own):
+        raise Disagreement(f"{call}: the Rust answers {theirs} where its order has {first_of(own)}")
+    if theirs != due and (due, theirs) not in LISTED:
+        raise Disagreement(f"{call}: the Rust answers {theirs} where {due} is due, and docs/DIFFERENCES.md does not list it")
 
 
 def block_ends(file, count):
@@ -101,7 +132,7 @@ def block_ends(file, count):
     ends, at = [], 128
     for _ in range(count):
         size, cues = struct.unpack_from(">I", file, at)[0], file[at + 28]
-        at += 32 + (8 * cues + 31) // 32 * 32 + size
+        at += 32 + up(8 * cues) + size
         ends.append(at)
     return ends
 
@@ -143,104 +174,232 @@ def part_at(at, ends):
     return "block header" if at in [128] + ends else "cues and data"
 
 
-def begin(due, slot, channels, mode, lent=LENT):
-    return step(BEGIN, due, slot, (12, words(channels, mode)), lent=lent)
+# ---- Calls, each with the number due
+
+@dataclass(frozen=True)
+class Refused:
+    """A call that was refused: of which channel count, whether a block was pushed before, the rules that it breaks, and the Rust's answer, if it has one."""
+    call: str
+    channels: int
+    later: bool
+    rules: tuple
+    theirs: object = None
 
 
-def cue(due, slot, start, kind, length, name):
-    return step(CUE, due, slot, (12, words(kind)), (16, struct.pack(">Q", start)), (32, words(name) + struct.pack(">Q", length)))
+class Calls:
+    """Makes the steps. The model makes the calls too, and says what is due."""
+
+    def __init__(self, oracle, loading, slot):
+        self.oracle, self.loading, self.slot = oracle, loading, slot
+        self.made, self.refused, self.loader = [], [], None
+
+    def note(self, call, order, theirs=None):
+        if first_of(order):
+            later = self.loader is not None and self.loader.blocks != []
+            self.refused.append(Refused(call, self.loading.channels, later, broken(order), theirs))
+
+    def begin(self, slot, channels, mode, lent=LENT):
+        order = begin_order(slot, channels, lent)
+        self.note("begin", order)
+        if not first_of(order):
+            self.loader = Loader(slot, channels, mode, lent)
+        self.made.append(step(BEGIN, first_of(order), slot, (12, words(channels, mode)), lent=lent))
+
+    def cue(self, start, kind, length, name):
+        order = self.loader.cue_order(start, kind, length, name)
+        due, theirs = first_of(order), None
+        if due == 0:
+            self.loader.cue(start, kind, length, name)
+        elif due != 21:
+            cues = (*self.loader.cues, (start, kind, length, name))
+            theirs = ending(self.oracle, self.loading, self.loading.blocks[:1], cues)
+            held("cue", due, theirs, rust_cue(kind, length))
+        self.note("cue", order, theirs)
+        parts = (12, words(kind)), (16, struct.pack(">Q", start)), (32, words(name) + struct.pack(">Q", length))
+        self.made.append(step(CUE, due, self.slot, *parts))
+
+    def push(self, one):
+        order = self.loader.push_order(*one.arguments())
+        due, theirs = first_of(order), None
+        if due == 0:
+            self.loader.push(*one.arguments())
+        elif one.channels in (1, self.loading.channels):
+            theirs = self.asked(one, due)
+        self.note("push", order, theirs)
+        sides = one.left.packed() + one.left.data
+        sizes = len(one.left.data), 0
+        if one.channels == 2:
+            sides += one.right.packed() + one.right.data
+            sizes = len(one.left.data), len(one.right.data)
+        self.made.append(step(PUSH, due, self.slot, (12, words(one.channels, one.last, *sizes)), (32, sides), lent=one.lent))
+
+    def asked(self, one, due):
+        """The Rust's answer to a refused push, after the blocks before it."""
+        channels = self.loading.channels
+        right = one.right if one.channels == channels else None
+        first = tuple(self.loader.blocks[0]) if self.loader.blocks else ()
+        before = self.loading.blocks[:len(self.loader.blocks)]
+        theirs = ending(self.oracle, self.loading, (*before, (one.left, right)))
+        held("push", due, theirs, rust_push(first, channels, one.left, right))
+        return theirs
+
+    def finish(self, lent=LENT):
+        order = self.loader.finish_order(lent)
+        due = first_of(order)
+        if due == 0:
+            self.loader.finish(lent)
+        if due == 27:
+            held("finish", due, ending(self.oracle, self.loading, ()), ((27, True),))
+        self.note("finish", order)
+        self.made.append(step(FINISH, due, self.slot, (12, words(0 if due else self.loader.at)), lent=lent))
 
 
-def push(due, slot, channels, left, right, last, lent=LENT):
-    sides = left.packed() + left.data
-    if channels == 2:
-        sides += right.packed() + right.data
-    return step(PUSH, due, slot, (12, words(channels, last, len(left.data), len(right.data) * (channels == 2))), (32, sides), lent=lent)
+# ---- Pushes to be refused
+
+LONG = [2**32 + i for i in (0, 2)] + [2**61] + [2**62 + i for i in (-1, 0, 1, 2, 3, 16, 65536, 65537, 131072, 131073)]
+LONG += [2**63 + i for i in (-1, 0, 2, 19)] + [3 * 2**62 + 2, 2**64 - 2, 2**64 - 1]
+
+# How each rule can be broken. 25 and 26 go by where the push is.
+WAYS = {
+    29: ("count",), 15: ("right rate",), 22: ("rate",), 9: ("rate 0",), 12: ("right length",), 10: ("length 0", "length 1"),
+    13: (*(f"length {n}" for n in LONG), "one too long"), 11: ("data longer", "data shorter", "no data"), 23: ("coefficients",),
+    24: ("no room",), 14: ("short buffer", "no buffer"),
+}
+RIGHT_WAYS = {11: ("right data longer", "right data shorter"), 23: ("right coefficients",)}  # in stereo
+COUNT_WAYS = {29: ("count 0", "count 3")}  # of a push that breaks no rule after 29
+NUMBERS = {way: number for ways in (WAYS, RIGHT_WAYS, COUNT_WAYS) for number, names in ways.items() for way in names}
+CHANGED = (29, 10, 13, 24, 12, 11, 22, 9, 15, 23, 14)  # in this order, so that none undoes another
 
 
-def finish(due, slot, length=0, lent=LENT):
-    return step(FINISH, due, slot, (12, words(length)), lent=lent)
+def with_data(side, data):
+    """With these bytes, or one more where it has them."""
+    return replace(side, data=data if data != side.data else data + b"\0")
 
 
-# ---- Calls to be refused
-
-# Pushes that break one rule of document 01 which the Rust does not have: the number, and what is pushed.
-def broken(name, slot, room, channels, left, right, last, needed):
-    longer = lambda side, more: replace(side, data=side.data + more)
-    if name == "count":
-        return push(29, slot, 3 - channels, left, right, last)
-    if name == "length 0":
-        return push(10, slot, channels, resized(left, 0), resized(right, 0), last)
-    if name == "length 1":
-        return push(10, slot, channels, resized(left, 1), resized(right, 1), last)
+def other_side(name, side):
+    """A side on which a rule is broken."""
     if name == "data longer":
-        return push(11, slot, channels, longer(left, b"\0"), right, last)
+        return with_data(side, side.data + b"\0")
     if name == "data shorter":
-        return push(11, slot, channels, replace(left, data=left.data[:-1]), right, last)
-    if name == "right data shorter":
-        return push(11 if channels == 2 else 0, slot, channels, left, replace(right, data=right.data[:-1]), last)
-    if name == "no room":
-        length = 2 * (room - 32) + 2
-        return push(24, slot, channels, resized(left, length), resized(right, length), last)
-    if name == "short buffer":
-        return push(14, slot, channels, left, right, last, lent=needed - 1)
+        return with_data(side, side.data[:-1])
+    if name == "no data":
+        return with_data(side, b"")
+    if name == "coefficients":
+        return replace(side, coefficients=side.coefficients[:15] + (side.coefficients[15] ^ 1,))
+    if name == "rate":
+        return replace(side, rate=side.rate + 1)
+    if name == "rate 0":
+        return replace(side, rate=0)
+    if name == "length":
+        return resized(side, side.length - 2 if side.length > 3 else side.length + 2)
     raise ValueError(name)
 
 
-ONE_RULE = ("count", "length 0", "length 1", "data longer", "data shorter", "right data shorter", "no room", "short buffer")
+def changed(name, one, loader):
+    """The push with one more rule broken."""
+    if name.startswith("right "):
+        return replace(one, right=other_side(name[6:], one.right))
+    if name == "count":
+        return replace(one, channels=3 - one.channels)
+    if name.startswith("count "):
+        return replace(one, channels=int(name[6:]))
+    if name == "short buffer":
+        return replace(one, lent=loader.whole([one.left, one.right][:one.channels], one.last) - 1)
+    if name == "no buffer":
+        return replace(one, lent=0)
+    if name in ("rate", "rate 0"):
+        return replace(one, left=other_side(name, one.left), right=other_side(name, one.right))
+    longer = {"one too long": 131073 if one.channels == 1 else 65537, "no room": max(2, 2 * (loader.slot - loader.at - 32) + 2)}
+    if name in longer or name.startswith("length "):
+        length = longer[name] if name in longer else int(name[7:])
+        return replace(one, left=resized(one.left, length), right=resized(one.right, length))
+    return replace(one, left=other_side(name, one.left))
 
 
-# What the Rust refuses a push for, alone and together.
-def unlike(names, left, right):
-    for name in sorted(names):
-        if name == "rate":
-            left, right = replace(left, rate=left.rate + 1), replace(right, rate=right.rate + 1)
-        elif name == "rate 0":
-            left, right = replace(left, rate=0), replace(right, rate=0)
-        elif name == "right rate":
-            right = replace(right, rate=right.rate + 1)
-        elif name == "right length":
-            right = resized(right, right.length + 2)
-        elif name == "too long":
-            left, right = replace(left, length=200000), replace(right, length=200000 + right.length - left.length)
-        else:
-            left = replace(left, coefficients=left.coefficients[:15] + (left.coefficients[15] ^ 1,))
-    return left, right
+def refused_push(names, one, loader):
+    """The push with a rule broken in each of these ways."""
+    for name in sorted(names, key=lambda name: CHANGED.index(NUMBERS[name])):
+        one = changed(name, one, loader)
+    rules = broken(loader.push_order(*one.arguments()))
+    if not rules or not {NUMBERS[name] for name in names} <= {*rules}:
+        raise Unbroken(f"{names} break {rules}")
+    return one
 
 
-def asked_of_the_rust(channels, i):
-    """What push i can be refused for."""
-    return ["rate 0", "too long"] + ["rate", "coefficients"] * (i > 0) + ["right rate", "right length"] * (channels == 2)
+def ways(number, numbers, channels):
+    """The ways to break a rule in a push that breaks these, in a loading of so many channels."""
+    stereo = channels == 2 and 29 not in numbers
+    made = WAYS[number] + (RIGHT_WAYS.get(number, ()) if stereo else ()) + (COUNT_WAYS.get(number, ()) if {*numbers} <= {26, 29, 25} else ())
+    return tuple(way for way in made if "longer" in way) if number == 11 and 24 in numbers else made
 
 
 # ---- The steps of a loading
 
 def refused_at(loading, place):
-    return [what for where, what in loading.refused if where == place]
+    return [names for where, names in loading.refused if where == place]
 
 
-def refused_pushes(oracle, loading, i, slot, start, end):
-    left, right = loading.blocks[i]
-    last = i == len(loading.blocks) - 1
-    for what in refused_at(loading, i):
-        if isinstance(what, str):
-            yield broken(what, slot, slot - start, loading.channels, left, right, last, end - start)
-        else:
-            sides = unlike(what, left, right)
-            due = mapped(oracle, loading, loading.blocks[:i] + (sides,))
-            yield push(due, slot, loading.channels, *sides, last)
+def refused_pushes(calls, place, one):
+    for names in refused_at(calls.loading, place):
+        calls.push(refused_push(names, one, calls.loader))
 
 
-def cue_steps(loading, slot):
-    held = set()
-    for i, one in enumerate(loading.cues):
-        yield cue(0, slot, *one)
-        held.add(one)
-        if "cues" in refused_at(loading, "cues") and i % 3 == 0:
-            yield from (cue(0, slot, *one), cue(8, slot, 2147483648, 0, 0, 1), cue(8, slot, 5, 2, 0, 1))
-    if len(held) == CUE_LIMIT:
+def refused_cues(calls, others=()):
+    """Each broken rule of a cue, two at once, and an equal cue."""
+    for one in ((2147483648, 0, 0, 1), (5, 2, 0, 1), (2**64 - 1, 2, 0, 1), *calls.loader.cues[:1], *others):
+        calls.cue(*one)
+
+
+def refused_begins(calls):
+    """Each broken rule of begin, two and three at once."""
+    slot, channels = calls.slot, calls.loading.channels
+    for one in itertools.product((slot, 191, 16777217), (channels, 0, 3), (2,), (LENT, 0)):
+        if one != (slot, channels, 2, LENT):
+            calls.begin(*one)
+
+
+def refused_finishes(calls):
+    for lent in (LENT, 127, 0):
+        if first_of(calls.loader.finish_order(lent)):
+            calls.finish(lent)
+
+
+NEW_CUE = (7, 0, 0, 4294967295)
+
+
+def make_cues(calls):
+    for i, one in enumerate(calls.loading.cues):
+        calls.cue(*one)
+        if refused_at(calls.loading, "cue") and i % 3 == 0:
+            refused_cues(calls)
+    if len(calls.loader.cues) == CUE_LIMIT:
         # A full table takes an equal cue and refuses any other; a bad one gets its own number first.
-        yield from (cue(0, slot, *loading.cues[0]), cue(20, slot, 7, 0, 0, 4294967295), cue(8, slot, 2147483648, 0, 0, 1))
+        refused_cues(calls, [NEW_CUE])
+
+
+def make_pushes(calls, starts):
+    loading = calls.loading
+    for i, (left, right) in enumerate(loading.blocks[:loading.pushes + 1]):
+        one = Push(loading.channels, left, right, i == len(loading.blocks) - 1)
+        refused_pushes(calls, i, one)
+        if i < loading.pushes:
+            # The lent buffer is now and then as long as what is handed out.
+            calls.push(replace(one, lent=starts[i + 1] - starts[i]) if i % 2 else one)
+            if i == 0:
+                refused_cues(calls, [NEW_CUE])
+            if i < 3 and not one.last:
+                refused_finishes(calls)
+
+
+def make_end(calls):
+    one = Push(calls.loading.channels, *calls.loading.blocks[-1], True)
+    refused_pushes(calls, "last", one)
+    refused_finishes(calls)
+    calls.finish(128)
+    if refused_at(calls.loading, "finish"):
+        refused_finishes(calls)
+        refused_cues(calls, [NEW_CUE])
+    refused_pushes(calls, "finished", replace(one, last=False))
 
 
 def earlier_content(loading, slot, file):
@@ -251,65 +410,40 @@ def earlier_content(loading, slot, file):
     return random.Random(loading.seed).randbytes(slot)
 
 
-def begin_steps(loading, slot, earlier):
-    if refused_at(loading, "begin"):
-        yield from (begin(3, slot, 0, 2), begin(3, slot, 3, 2), begin(7, 191, 1, 2), begin(7, 16777217, 1, 2), begin(14, slot, loading.channels, 2, lent=0))
-        yield from bytes_steps(earlier, [])
-    yield begin(0, slot, loading.channels, loading.mode)
+@dataclass(frozen=True)
+class Made:
+    steps: list
+    file: bytes  # the finished file, if there is one
+    ends: list  # where the blocks end
+    refused: list
 
 
-def push_steps(oracle, loading, slot, ends):
-    starts = [128] + ends
-    for i in range(loading.pushes):
-        left, right = loading.blocks[i]
-        last = i == len(loading.blocks) - 1
-        yield from refused_pushes(oracle, loading, i, slot, starts[i], ends[i])
-        # The lent buffer is now and then as long as what is handed out.
-        yield push(0, slot, loading.channels, left, right, last, lent=ends[i] - starts[i] if i % 2 else LENT)
-        if i == 0:
-            yield cue(21, slot, 0, 0, 0, 1)
-        if not last and i < 3:
-            yield finish(28, slot)
-
-
-def end_steps(loading, slot, file):
-    left, right = loading.blocks[-1]
-    if refused_at(loading, "end"):
-        yield from (push(26, slot, loading.channels, left, right, True), finish(14, slot, lent=127))
-    yield finish(0, slot, len(file), lent=128)
-    if refused_at(loading, "end"):
-        yield from (finish(26, slot), push(26, slot, loading.channels, left, right, False), cue(21, slot, 0, 0, 0, 1))
-
-
-def steps(oracle, loading):
-    """Every step; the finished file, if there is one; where the blocks end."""
+def made_of(oracle, loading):
     file = whole_file(oracle, loading)
-    ends = block_ends(file, len(loading.blocks))
-    slot = len(file) + loading.spare
+    starts = [128] + block_ends(file, len(loading.blocks))
+    end, ends = starts[loading.pushes], starts[1:loading.pushes + 1]
+    slot = max(192, end + loading.spare)
     earlier = earlier_content(loading, slot, file)
-    made = [] if loading.earlier == "zeros" else [spread(CONTENT, 0, earlier)]
-    made += begin_steps(loading, slot, earlier)
-    made.append(finish(mapped(oracle, loading, ()), slot))
-    made += cue_steps(loading, slot)
-    made += push_steps(oracle, loading, slot, ends)
+    calls = Calls(oracle, loading, slot)
+    if loading.earlier != "zeros":
+        calls.made.append(spread(CONTENT, 0, earlier))
+    if refused_at(loading, "begin"):
+        refused_begins(calls)
+        calls.made += bytes_steps(earlier, [])
+    calls.begin(slot, loading.channels, loading.mode)
+    refused_finishes(calls)
+    make_cues(calls)
+    make_pushes(calls, starts)
     if loading.pushes == len(loading.blocks):
-        made += end_steps(loading, slot, file)
-        return made + bytes_steps(file + earlier[len(file):], ends), file, ends
-    if loading.pushes == BLOCK_LIMIT:
-        left, right = loading.blocks[BLOCK_LIMIT]
-        made += [push(25, slot, loading.channels, left, right, True), push(29, slot, 3 - loading.channels, left, right, True)]
+        make_end(calls)
+        return Made(calls.made + bytes_steps(file + earlier[len(file):], ends), file, ends, calls.refused)
     # No finish: a header of earlier content but for byte 15, then the Rust's blocks up to the last pushed.
-    ends = ends[:loading.pushes]
-    end = ([128] + ends)[-1]
-    made.append(finish(28 if ends else 27, slot))
-    return made + bytes_steps(earlier[:15] + b"\0" + earlier[16:128] + file[128:end] + earlier[end:], ends), b"", ends
+    refused_finishes(calls)
+    slot_now = earlier[:15] + b"\0" + earlier[16:128] + file[128:end] + earlier[end:]
+    return Made(calls.made + bytes_steps(slot_now, ends), b"", ends, calls.refused)
 
 
 # ---- Generated, and a list
-
-def samples(length):
-    return length // 16 * 14 + max(length % 16 - 2, 0)
-
 
 def some_side(rate, length, coefficients):
     context = (random.randrange(65536), random.randrange(-32768, 32768), random.randrange(-32768, 32768))
@@ -341,15 +475,26 @@ def some_lengths(channels, large):
     return [random.choice((2, 3, 15, 16, 17, 32, 2 + random.randrange(378), 2 + random.randrange(60))) for _ in range(random.choice((1, 1, 2, 3, 4, 6)))]
 
 
-def some_refused(channels, pushes):
-    made = [("begin", "begin")] * (random.random() < 0.5) + [("cues", "cues")] * (random.random() < 0.5) + [("end", "end")] * (random.random() < 0.7)
-    for i in range(min(pushes, 6)):
-        if random.random() < 0.4:
-            one_rule = ONE_RULE if channels == 2 else [name for name in ONE_RULE if name != "right data shorter"]
-            made += [(i, name) for name in random.sample(one_rule, random.choice((1, 2, 4)))]
-            names = asked_of_the_rust(channels, i)
-            for _ in range(random.choice((1, 2, 3))):
-                made.append((i, frozenset(random.sample(names, random.choice((1, 1, 2, min(3, len(names))))))))
+def some_rules(channels, later):
+    """One, two or three rules of push that can be broken at once."""
+    while True:
+        rules = sorted(random.sample(list(WAYS), random.choice((1, 2, 2, 3, 3))), key=PUSH_ORDER.index)
+        if together(rules, channels, later) and can_be_made(rules):
+            return rules
+
+
+def can_be_made(rules):
+    """A block passes the slot's end by its length, unless there is no room for any."""
+    return 24 not in rules or not {10, 13} & {*rules}
+
+
+def some_refused(channels, pushes, finished):
+    made = [("begin", ())] * (random.random() < 0.2) + [("cue", ())] * (random.random() < 0.3) + [("finish", ())] * (random.random() < 0.3)
+    places = [*range(min(pushes + (not finished), 6))] + ["last", "finished"] * finished
+    for place in places:
+        for _ in range(random.choice((0, 0, 0, 1, 2, 3))):
+            rules = some_rules(channels, place != 0)
+            made.append((place, tuple(random.choice(ways(number, rules, channels)) for number in rules)))
     return tuple(made)
 
 
@@ -361,15 +506,61 @@ def some_loading():
     cues = some_cues(sum(samples(n) for n in lengths), many)
     pushes = min(len(lengths), BLOCK_LIMIT) if large or random.random() < 0.9 else random.randrange(len(lengths))
     spare = random.choice((0, 1, random.randrange(500), random.randrange(500)))
-    refused = () if large else some_refused(channels, pushes)
+    refused = () if large else some_refused(channels, pushes, pushes == len(lengths))
     earlier = "zeros" if large else random.choice(("noise", "file", "zeros"))
     return Loading(channels, mode, cues, some_blocks(lengths), pushes, spare, earlier, refused, random.randrange(1 << 32))
 
 
+# Where a push is refused: the place, the rules broken there whatever is pushed, whether a block was pushed before; the lengths, cues, pushes and spare of the loading.
+POINTS = tuple((0, 0, 0, name) for name in range(5))
+PLACES = [
+    (0, (), False, (16, 40), (), 2, 200), (0, (24,), False, (16,), POINTS, 0, 0), (1, (), True, (16, 40, 17), (), 3, 200), (1, (24,), True, (16, 16), (), 1, 0),
+    (512, (25,), True, (2,) * 513, (), 512, 200), (512, (25, 24), True, (2,) * 513, (), 512, 0),
+]
+for where in ("last", "finished"):
+    PLACES += [(where, (26,), True, (16, 40), (), 2, 200), (where, (26, 24), True, (16, 40), (), 2, 0)]
+PLACES += [("last", (26, 25), True, (2,) * 512, (), 512, 200), ("last", (26, 25, 24), True, (2,) * 512, (), 512, 0)]
+
+
+def few(rules):
+    return len(rules) <= 3
+
+
+def neighbours(rules):
+    return rules in itertools.pairwise(PUSH_ORDER)
+
+
+def rules_with(there, channels, later, wanted):
+    """The wanted sets of rules with those that are broken there; and which of them the push is to break."""
+    free = [number for number in PUSH_ORDER if number in WAYS and number not in there]
+    for count in range(4):
+        for chosen in itertools.combinations(free, count):
+            rules = tuple(sorted(chosen + there, key=PUSH_ORDER.index))
+            if rules and wanted(rules) and can_be_made(chosen) and together(rules, channels, later):
+                two_in_mono = channels == 1 and {15, 12} & {*chosen} and 29 not in chosen
+                yield rules, chosen + (29,) * bool(two_in_mono)
+
+
+def of_rules(wanted=few):
+    """A loading for every wanted set of rules, up to three of them, that a push can break at once, in mono and stereo, as the first push and as a later one,
+    with room and without, after 512 blocks, after the last and after finish. The ways to break a rule take turns."""
+    turns = Counter()
+    for channels in (1, 2):
+        for place, there, later, lengths, cues, pushes, spare in PLACES:
+            for rules, chosen in rules_with(there, channels, later, wanted):
+                names = []
+                for number in chosen:
+                    can = ways(number, rules + chosen, channels)
+                    names.append(can[turns[number] % len(can)])
+                    turns[number] += 1
+                yield Loading(channels, 2, cues, some_blocks(lengths), pushes, spare, "zeros", ((place, tuple(names)),))
+
+
 def listed():
-    """A full table of cues, and 512 blocks without the last mark."""
+    """A full table of cues, and 512 blocks without the last mark; then each two neighbours of push's order, broken at once."""
     points = tuple((i // 2, i % 2 * 2, i % 2, i) for i in range(CUE_LIMIT))
-    refused = (("begin", "begin"), ("cues", "cues"), ("end", "end"), (0, "no room"), (0, "short buffer"), (1, "no room"), (1, "short buffer"))
+    refused = (("begin", ()), ("cue", ()), ("finish", ()), *((i, (way,)) for i in range(2) for way in ("no room", "short buffer")))
     for channels in (1, 2):
         yield Loading(channels, 2, points, some_blocks((16, 100)), 2, 0, "noise", refused)
-    yield Loading(1, 0, (), some_blocks([2] * 513), 512, 0, "zeros")
+    yield Loading(1, 0, (), some_blocks([2] * 513), 512, 200, "zeros", ((512, ()), (512, ("rate",)), (512, ("count",))))
+    yield from (one for one in of_rules(neighbours) if len(one.blocks) < BLOCK_LIMIT)

@@ -52,8 +52,10 @@ def smaller_loadings(loading):
     """The loading with fewer refused calls, cues and blocks, shorter blocks, less around them."""
     if loading.refused:
         yield replace(loading, refused=())
-    for i in range(len(loading.refused)):
+    for i, (place, names) in enumerate(loading.refused):
         yield replace(loading, refused=without(loading.refused, i))
+        for k in range(len(names) if len(names) > 1 else 0):
+            yield replace(loading, refused=loading.refused[:i] + ((place, without(names, k)),) + loading.refused[i + 1:])
     if loading.cues:
         yield replace(loading, cues=())
     for i in range(len(loading.cues)):

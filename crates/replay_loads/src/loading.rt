@@ -59,7 +59,7 @@ fn kind(n: u32, length: u64) -> CueKind {
 
 // The 16 coefficients from here on.
 fn coefficients_at(s: &[u8], at: usize) -> [i16; 16]
-    requires { ⌜ at < 8589934600 ⌝ }
+    requires { ⌜ at < 8589934604 ⌝ }
 {
     let mut coefficients = [0i16; 16];
     let mut i: usize = 0;
@@ -74,17 +74,17 @@ fn coefficients_at(s: &[u8], at: usize) -> [i16; 16]
 fn side(s: &[u8], at: usize) -> ChannelBlock
     requires { ⌜ at < 8589934592 ⌝ }
 {
-    let coefficients = coefficients_at(s, at + 8);
+    let coefficients = coefficients_at(s, at + 12);
     let context = FrameContext {
-        predictor_and_scale: half(s, at + 42),
-        last: signed(s, at + 44),
-        oldest: signed(s, at + 46),
+        predictor_and_scale: half(s, at + 46),
+        last: signed(s, at + 48),
+        oldest: signed(s, at + 50),
     };
     ChannelBlock {
         rate: number(s, at),
-        length: size(s, at + 4),
+        length: long(s, at + 4) as usize,
         coefficients,
-        gain: half(s, at + 40),
+        gain: half(s, at + 44),
         context,
     }
 }
@@ -146,9 +146,9 @@ fn make_push(step: &[u8], w: HpsWriter, lent: &mut [u8]) -> Finished
         w,
         size(step, 12),
         side(step, 32),
-        side(step, 80 + many),
-        part(step, 80, many),
-        part(step, 128 + many, size(step, 24)),
+        side(step, 84 + many),
+        part(step, 84, many),
+        part(step, 136 + many, size(step, 24)),
         number(step, 16) == 1,
         lent,
     ))

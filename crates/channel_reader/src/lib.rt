@@ -7,7 +7,7 @@ use remaining::RemainingReply;
 use remaining::data_remaining;
 ghost use mathlib.Core.Path.{_≡_};
 ghost use Rattle.reader.specs.OpeningAndReading.{Readable, blockRead, dataRemaining};
-ghost use Rattle.block_reader.specs.BlockAnswers.{blockCall, blockData};
+ghost use Rattle.block_reader.specs.BlockAnswers.{blockCall, blockData, blockStart, bytesOn};
 ghost use Rattle.remaining.specs.RemainingAnswers.{remainingReply};
 
 pub struct ChannelReader<'a> {
@@ -29,10 +29,11 @@ pub fn read<'a>(c: ChannelReader<'a>, r: HpsReader, channel: usize) -> BlockCall
     read_block(c.slot, r, channel, c.position)
 }
 
-// Its data, a part of the slot itself.
+// Its data, a part of the slot itself, and where it lies.
 pub fn data<'a>(c: ChannelReader<'a>, r: HpsReader, channel: usize) -> &'a [u8]
     requires { ⌜ Readable r ⌝ }
-    ensures { λ d. ⌜ now d ≡ blockData (blockRead (now (c .entry .slot)) r channel (c .entry .position)) ⌝ }
+    ensures { λ d. ⌜ (now d ≡ blockData (blockRead (now (c .entry .slot)) r channel (c .entry .position)))
+        × (d .ptr ≡ bytesOn (c .entry .slot .ptr) (blockStart (blockRead (now (c .entry .slot)) r channel (c .entry .position)))) ⌝ }
 {
     block_data(c.slot, r, channel, c.position)
 }

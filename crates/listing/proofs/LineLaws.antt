@@ -21,7 +21,7 @@ use Rattle.listing.specs.declared.listing.Line.{Line}
 use Rattle.lines.specs.Lines.{loopLine, cueLine}
 use Rattle.listing.specs.MarkingKey.{linesFrom, listingFrom, linesFitting, linesBeyond, lineFitting, linesAfter}
 use Rattle.listing.specs.Filling.{LineIs, FilledIs}
-use Rattle.listing.proofs.ListingLaws.{cues-none, cues-refused, cues-end, cues-loop, cues-point, Full, sized, first-fits, fitting-next, beyond-next, full, fitting-beyond, fitting-fits, none-left}
+use Rattle.listing.proofs.ListingLaws.{cues-none, cues-refused, cues-end, cues-loop, cues-point, sized, first-fits, fitting-next, beyond-next, full, fitting-beyond, fitting-fits, none-left}
 
 module _ (s : List ℕ) (r : HpsReader) (stage : Stage) (out : List ℕ) (at : ℕ) where
   -- nothing is left

@@ -38,6 +38,27 @@ pub fn data<'a>(c: ChannelReader<'a>, r: HpsReader, channel: usize) -> &'a [u8]
     block_data(c.slot, r, channel, c.position)
 }
 
+// Where the position stands after the block read at it.
+fn position_after(slot: &[u8], r: HpsReader, channel: usize, position: usize) -> usize
+    requires { ⌜ Readable r ⌝ }
+    ensures { λ n. ⌜ n ≡ blockCall position (blockRead (now (slot .entry)) r channel position) .position ⌝ }
+{
+    read_block(slot, r, channel, position).position
+}
+
+// The reader moved on: past the block at its position, with 1 too; at the end and with 6 it stays.
+pub fn moved<'a>(c: ChannelReader<'a>, r: HpsReader, channel: usize) -> ChannelReader<'a>
+    requires { ⌜ Readable r ⌝ }
+    ensures { λ d. ⌜ (d .slot ≡ c .entry .slot)
+        × (d .position ≡ blockCall (c .entry .position) (blockRead (now (c .entry .slot)) r channel (c .entry .position)) .position) ⌝ }
+{
+    let position = position_after(c.slot, r, channel, c.position);
+    ChannelReader {
+        slot: c.slot,
+        position,
+    }
+}
+
 // The addresses from the position on.
 pub fn remaining<'a>(c: ChannelReader<'a>, r: HpsReader) -> RemainingReply
     requires { ⌜ Readable r ⌝ }

@@ -43,8 +43,8 @@ uint32_t hps_remaining(const uint8_t *slot, size_t slot_length, const uint8_t *o
 uint32_t hps_cues(const uint8_t *slot, size_t slot_length, const uint8_t *opened, size_t opened_length, uint8_t *cursor, size_t cursor_length,
                   uint8_t *out, size_t out_length, size_t *cues);
 
-/* The marking key's listing of a slot of at most 65536 bytes: as many whole lines as fit; gives their bytes. It is the whole listing
- * if HPS_LISTING_LINE bytes of out are left. A listing has fewer than 5000000 bytes. */
+/* The marking key's listing of a slot of at most 65536 bytes: as many whole lines as fit, each by its own length; gives their bytes.
+ * It is the whole listing if HPS_LISTING_LINE bytes of out are left. A listing has fewer than 5000000 bytes. */
 size_t hps_listing(const uint8_t *slot, size_t slot_length, uint8_t *out, size_t out_length);
 
 /* Begin, with the length of the slot that the writes go to. Mode: 0 Disabled, 1 Enabled, 2 Auto. Gives the write's place; its bytes are

@@ -1,7 +1,7 @@
 -- What a block read answers by where its data lies.
 use Prim.Native.Nat.{ℕ, _+_, _-_, _≤_, _<_}
-use mathlib.Core.Path.{_≡_, refl, sym}
-use mathlib.Core.List.{List}
+use mathlib.Core.Path.{_≡_, refl, sym, ap, _∙_}
+use mathlib.Core.List.{List, []}
 use native.Mathlib.Omega.{arith}
 use borrow.Author.Tests.{lt-leb, leb-true, leb-false}
 use lib.ListN.{length, take, drop, length-take, length-drop}
@@ -19,7 +19,7 @@ use Rattle.data_places.specs.declared.BlockData.{BlockData}
 use Rattle.data_places.specs.declared.DataRead.{DataRead}
 use Rattle.reader.specs.OpeningAndReading.{BlockAnswer, channelIn, offsetIn, contextIn, bytesIn, dataStart, dataPart, blockRead}
 use Rattle.data_places.specs.DataPlaces.{dataPlaced, dataFound}
-use Rattle.block_reader.specs.BlockAnswers.{blockCall, blockData}
+use Rattle.block_reader.specs.BlockAnswers.{blockCall, blockData, blockStart, bytesOn}
 use Rattle.reader.proofs.HeaderLaws.{header-cases}
 use Rattle.reader.proofs.PartsLaws.{block-is}
 
@@ -82,5 +82,9 @@ module _ (s : List ℕ) (r : HpsReader) (ch i : ℕ) (d : BlockData) (g : Given 
       let m : d .start + length (take (d .end - d .start) (drop (d .start) s)) ≡ d .end = omega (arith, g .order) in
       rw (g .is) (rw (m, ex))
 
-  pub data-given : take (d .end - d .start) (drop (d .start) s) ≡ blockData (blockRead s r ch i)
-  data-given = rw (g .is)
+  pub data-given : (at : ℕ × ℕ) → (take (d .end - d .start) (drop (d .start) s) ≡ blockData (blockRead s r ch i)) × (bytesOn at (d .start) ≡ bytesOn at (blockStart (blockRead s r ch i)))
+  data-given at = rw (g .is) (refl, refl)
+
+-- where no block is given: an empty part at the slot's start
+pub no-part : {a b : BlockAnswer} (at : ℕ × ℕ) → a ≡ b → blockData b ≡ [] → blockStart b ≡ 0 → ([] ≡ blockData a) × (at ≡ bytesOn at (blockStart a))
+no-part at e d z = rw e (sym d, ap (λ (n : ℕ). (at .0, n)) (let h : at .1 ≡ 0 + at .1 = omega arith in h ∙ ap (λ (n : ℕ). n + at .1) (sym z)))

@@ -27,3 +27,14 @@ blockData (BlockAnswer.refused n) = []
 blockData (BlockAnswer.refusedAt n j) = []
 blockData BlockAnswer.ended = []
 blockData (BlockAnswer.gave rate f cs gain len c start bytes j) = bytes
+
+-- where in the slot that part starts; the empty one at the slot's start
+abbrev pub blockStart : BlockAnswer → ℕ
+blockStart (BlockAnswer.refused n) = 0
+blockStart (BlockAnswer.refusedAt n j) = 0
+blockStart BlockAnswer.ended = 0
+blockStart (BlockAnswer.gave rate f cs gain len c start bytes j) = start
+
+-- A place in memory, a block of it and an offset there, so many bytes further on.
+abbrev pub bytesOn : ℕ × ℕ → (n : ℕ) → ℕ × ℕ
+bytesOn (block, offset) n = (block, n + offset)

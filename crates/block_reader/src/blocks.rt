@@ -10,7 +10,7 @@ ghost use mathlib.Core.Path.{_≡_};
 ghost use lib.ListN.{getD};
 ghost use Rattle.layout.specs.Records.{noChannel};
 ghost use Rattle.reader.specs.OpeningAndReading.{Readable, blockRead};
-ghost use Rattle.block_reader.specs.BlockAnswers.{noBlock, blockCall, blockData};
+ghost use Rattle.block_reader.specs.BlockAnswers.{noBlock, blockCall, blockData, blockStart, bytesOn};
 
 pub enum BlockReply {
     Refused(u32),
@@ -100,10 +100,11 @@ pub fn read_block(s: &[u8], r: HpsReader, channel: usize, position: usize) -> Bl
     }
 }
 
-// The block's data as a part of the slot itself, empty where no block is given.
+// The block's data as a part of the slot itself: its bytes, and its place in memory. Where no block is given the part is empty, at the slot's start.
 pub fn block_data<'a>(s: &'a [u8], r: HpsReader, channel: usize, position: usize) -> &'a [u8]
     requires { ⌜ Readable r ⌝ }
-    ensures { λ d. ⌜ now d ≡ blockData (blockRead (now (s .entry)) r channel position) ⌝ }
+    ensures { λ d. ⌜ (now d ≡ blockData (blockRead (now (s .entry)) r channel position))
+        × (d .ptr ≡ bytesOn (s .entry .ptr) (blockStart (blockRead (now (s .entry)) r channel position))) ⌝ }
 {
     if r.count <= channel {
         return &s[..0];

@@ -7,7 +7,7 @@ use remaining::RemainingReply;
 use remaining::data_remaining;
 ghost use mathlib.Core.Path.{_≡_};
 ghost use Rattle.reader.specs.OpeningAndReading.{Readable, blockRead, dataRemaining};
-ghost use Rattle.block_reader.specs.BlockAnswers.{blockCall, blockData};
+ghost use Rattle.block_reader.specs.BlockAnswers.{blockCall, blockData, blockStart, bytesOn};
 ghost use Rattle.remaining.specs.RemainingAnswers.{remainingReply};
 
 pub struct ChannelReader<'a> {
@@ -29,12 +29,34 @@ pub fn read<'a>(c: ChannelReader<'a>, r: HpsReader, channel: usize) -> BlockCall
     read_block(c.slot, r, channel, c.position)
 }
 
-// Its data, a part of the slot itself.
+// Its data, a part of the slot itself, and where it lies.
 pub fn data<'a>(c: ChannelReader<'a>, r: HpsReader, channel: usize) -> &'a [u8]
     requires { ⌜ Readable r ⌝ }
-    ensures { λ d. ⌜ now d ≡ blockData (blockRead (now (c .entry .slot)) r channel (c .entry .position)) ⌝ }
+    ensures { λ d. ⌜ (now d ≡ blockData (blockRead (now (c .entry .slot)) r channel (c .entry .position)))
+        × (d .ptr ≡ bytesOn (c .entry .slot .ptr) (blockStart (blockRead (now (c .entry .slot)) r channel (c .entry .position)))) ⌝ }
 {
     block_data(c.slot, r, channel, c.position)
+}
+
+// Where the position stands after the block read at it.
+fn position_after(slot: &[u8], r: HpsReader, channel: usize, position: usize) -> usize
+    requires { ⌜ Readable r ⌝ }
+    ensures { λ n. ⌜ n ≡ blockCall position (blockRead (now (slot .entry)) r channel position) .position ⌝ }
+{
+    read_block(slot, r, channel, position).position
+}
+
+// The reader moved on: past the block at its position, with 1 too; at the end and with 6 it stays.
+pub fn moved<'a>(c: ChannelReader<'a>, r: HpsReader, channel: usize) -> ChannelReader<'a>
+    requires { ⌜ Readable r ⌝ }
+    ensures { λ d. ⌜ (d .slot ≡ c .entry .slot)
+        × (d .position ≡ blockCall (c .entry .position) (blockRead (now (c .entry .slot)) r channel (c .entry .position)) .position) ⌝ }
+{
+    let position = position_after(c.slot, r, channel, c.position);
+    ChannelReader {
+        slot: c.slot,
+        position,
+    }
 }
 
 // The addresses from the position on.

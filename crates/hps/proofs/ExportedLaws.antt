@@ -1,10 +1,9 @@
 -- The exported calls' answers, from what the calls below them return.
-use Prim.Native.Nat.{ℕ, _+_, _≤_, _<_}
-use mathlib.Core.Path.{_≡_, refl, sym, ap, _∙_}
-use mathlib.Core.List.{List, [], _++_}
+use Prim.Native.Nat.{ℕ, _≤_, _<_}
+use mathlib.Core.Path.{_≡_, refl, sym, _∙_}
+use mathlib.Core.List.{List}
 use native.Mathlib.Omega.{arith}
-use lib.ListN.{length, take, length-append}
-use lib.Seq.{take-at}
+use lib.ListN.{length}
 use borrow.Author.Tests.{lt-ltb, le-ltb, le-leb, eq-eqb, ne-eqb}
 use Rattle.layout.specs.Puts.{putAt}
 use Rattle.writer.specs.Loading.{Answer, accepted, refused}
@@ -14,11 +13,11 @@ use Rattle.estimate.specs.declared.EstimateReply.{EstimateReply}
 use Rattle.reader.specs.OpeningAndReading.{Opened, blockRead, Remaining}
 use Rattle.kept_reader.specs.KeptReader.{openedBytes}
 use Rattle.reader.specs.declared.HpsReader.{HpsReader}
-use Rattle.listing.specs.MarkingKey.{listing, listingFrom}
+use Rattle.listing.specs.MarkingKey.{listingLines, linesFrom, linesFitting}
 use Rattle.listing.specs.Filling.{FilledIs}
 use Rattle.listing.specs.declared.Stage.{Stage}
 use Rattle.listing.specs.declared.listing.Line.{Line}
-use Rattle.hps.specs.Exported.{givenAfter, lengthAfter, openNumber, keptAfter, onRecord, BlockLent, blockLent, addressesAfter, Listed}
+use Rattle.hps.specs.Exported.{givenAfter, lengthAfter, openNumber, keptAfter, onRecord, BlockLent, blockLent, addressesAfter}
 
 -- ---- The estimate
 
@@ -90,24 +89,9 @@ module _ (r : HpsReader) where
 
 -- ---- The listing
 
-done-listing : (s : List ℕ) (r : HpsReader) (stage : Stage) → stage ≡ Stage.Done → listingFrom s r stage ≡ []
-unfolding listingFrom
-done-listing s r stage e = rw e
-
-pub listed : {s : List ℕ} {r : HpsReader} {stage : Stage} {before after : List ℕ} {q : Line} → FilledIs s r stage before after q → listingFrom s r stage ≡ listing s
-    → Listed s before after (q .length)
-listed {s} {r} {stage} {before} {after} {q} f e =
-    let rest = listingFrom s r (q .stage) in
-    let is : listing s ≡ f .lines ++ rest = sym e ∙ f .rest in
-    let n : length (listing s) ≡ length (f .lines) + length rest = ap length is ∙ length-append (f .lines) rest in
-    let l = f .long in
-    let first : take (q .length) (listing s) ≡ f .lines = ap (take (q .length)) is ∙ take-at (f .lines) rest (q .length) l in
-    record {
-      start = f .put ∙ ap (putAt before 0) (sym first);
-      fits = f .fits;
-      within = omega arith;
-      whole = λ h. let z : length rest ≡ 0 = ap length (done-listing s r (q .stage) (f .done h)) in omega arith;
-    }
+pub listed : {s : List ℕ} {r : HpsReader} {stage : Stage} {before after : List ℕ} {q : Line} → FilledIs s r stage before after q → linesFrom s r stage ≡ listingLines s
+    → (q .length ≡ length (linesFitting (length before) (listingLines s))) × (after ≡ putAt before 0 (linesFitting (length before) (listingLines s)))
+listed f e = rw (← e) (f .long, f .put)
 
 -- ---- Loading calls
 

@@ -1,8 +1,7 @@
 -- What the exported calls give: a number, and what the lent numbers and bytes hold after it.
-use Prim.Native.Nat.{ℕ, _+_, _≤_}
-use mathlib.Core.Path.{_≡_}
+use Prim.Native.Nat.{ℕ, _+_}
 use mathlib.Core.List.{List}
-use lib.ListN.{length, take}
+use lib.ListN.{length}
 use lib.Dec.{ltb, eqb}
 use lib.IntN.{ℤ}
 use Rattle.layout.specs.Choice.{pick}
@@ -17,7 +16,6 @@ use Rattle.kept_loading.specs.declared.KeptCall.{KeptCall}
 use Rattle.reader.specs.OpeningAndReading.{Opened, BlockAnswer, Remaining}
 use Rattle.reader.specs.declared.HpsReader.{HpsReader}
 use Rattle.kept_reader.specs.KeptReader.{openedSize, openedBytes}
-use Rattle.listing.specs.MarkingKey.{listing}
 
 -- ---- The estimate
 
@@ -79,15 +77,6 @@ remainingNumber (Remaining.addresses n) = 0
 abbrev pub addressesAfter : HpsReader → (before : ℕ) → Remaining → ℕ
 addressesAfter r before (Remaining.refused n) = before
 addressesAfter r before (Remaining.addresses n) = pick (eqb (r .count) 0) before n
-
--- ---- Listing
-
--- So many bytes from the listing's start, the rest of the buffer unchanged; where a longest line would still have fitted, they are the whole listing.
-pub record Listed (s before after : List ℕ) (n : ℕ) : Type 0 where
-  pub start : after ≡ putAt before 0 (take n (listing s))
-  pub fits : n ≤ length before
-  pub within : n ≤ length (listing s)
-  pub whole : n + 60 ≤ length before → n ≡ length (listing s)
 
 -- ---- Loading calls
 

@@ -21,7 +21,9 @@ ghost use lib.ListN.{length};
 ghost use Rattle.reader.specs.OpeningAndReading.{opening, blockRead, dataRemaining};
 ghost use Rattle.kept_reader.specs.KeptReader.{readerIn};
 ghost use Rattle.kept_cues.specs.KeptCues.{CuesLent, cuesNumber, cuesLent};
-ghost use Rattle.hps.specs.Exported.{openNumber, keptAfter, onRecord, blockNumber, BlockLent, blockLent, remainingNumber, addressesAfter, Listed};
+ghost use Rattle.hps.specs.Exported.{openNumber, keptAfter, onRecord, blockNumber, BlockLent, blockLent, remainingNumber, addressesAfter};
+ghost use Rattle.layout.specs.Puts.{putAt};
+ghost use Rattle.listing.specs.MarkingKey.{listingLines, linesFitting};
 
 // Opens a slot, and keeps the record in the lent bytes.
 #[no_mangle]
@@ -141,10 +143,11 @@ pub extern "C" fn hps_cues(
     cue_calls(slot, kept, cursor, out, cues)
 }
 
-// The listing from its start: as many whole lines as fit into out. It is whole if 60 bytes more would have fitted.
+// The listing from its start: as many whole lines as fit into out, and how many bytes they are.
 #[no_mangle]
 pub extern "C" fn hps_listing(slot: &[u8], out: &mut [u8]) -> usize
-    ensures { λ n. ⌜ Listed (now (slot .entry)) (now (out .entry)) (now (out .exit)) n ⌝ }
+    ensures { λ n. ⌜ n ≡ length (linesFitting (length (now (out .entry))) (listingLines (now (slot .entry)))) ⌝ }
+    ensures { λ _. ⌜ now (out .exit) ≡ putAt (now (out .entry)) 0 (linesFitting (length (now (out .entry))) (listingLines (now (slot .entry)))) ⌝ }
 {
     let start = start_listing(slot);
     let r = start.reader;

@@ -1,9 +1,12 @@
 -- What a call that puts lines does, case by case.
 use Prim.Native.Nat.{ℕ, _+_, _-_, _<_, _≤_}
 use mathlib.Core.Path.{_≡_, refl, ap, sym, _∙_}
-use mathlib.Core.List.{List, [], _∷_, _++_, append-assoc}
+use mathlib.Core.Bool.{true, false}
+use mathlib.Core.List.{List, [], _∷_, _++_, flatten, append-assoc, append-nil}
 use native.Mathlib.Omega.{arith}
 use lib.ListN.{length, take, length-append}
+use lib.Dec.{leb}
+use borrow.Author.Tests.{lt-leb, le-leb, leb-true, leb-false}
 use lib.Seq.{length-take-le}
 use Rattle.layout.specs.Puts.{putAt}
 use Rattle.puts.proofs.PutLaws.{putAt-none, putAt-next, putAt-length}
@@ -16,30 +19,38 @@ use Rattle.cue_reader.specs.declared.CueCall.{CueCall}
 use Rattle.listing.specs.declared.Stage.{Stage}
 use Rattle.listing.specs.declared.listing.Line.{Line}
 use Rattle.lines.specs.Lines.{loopLine, cueLine}
-use Rattle.listing.specs.MarkingKey.{listingFrom}
+use Rattle.listing.specs.MarkingKey.{linesFrom, listingFrom, linesFitting, linesBeyond, lineFitting, linesAfter}
 use Rattle.listing.specs.Filling.{LineIs, FilledIs}
-use Rattle.lines.proofs.ColumnLaws.{loop-length, cue-length}
-use Rattle.listing.proofs.ListingLaws.{cues-none, cues-refused, cues-end, cues-loop, cues-point}
+use Rattle.listing.proofs.ListingLaws.{cues-none, cues-refused, cues-end, cues-loop, cues-point, sized, first-fits, fitting-next, beyond-next, full, fitting-beyond, fitting-fits, none-left}
 
 module _ (s : List ℕ) (r : HpsReader) (stage : Stage) (out : List ℕ) (at : ℕ) where
   -- nothing is left
-  pub line-done : (q : Line) → q ≡ record { length = 0; stage = Stage.Done } → listingFrom s r stage ≡ [] → LineIs s r stage out at out q
-  unfolding listingFrom
-  line-done q e h =
-      rw e (record { line = []; long = refl; most = omega arith; put = sym (putAt-none out at); rest = h; done = λ z. refl })
+  pub line-done : (q : Line) → q ≡ record { length = 0; stage = Stage.Done } → linesFrom s r stage ≡ [] → LineIs s r stage out at out q
+  unfolding linesFrom
+  line-done q e h = rw e (record { long = rw h; put = rw h (sym (putAt-none out at)); rest = rw h })
 
-  -- a line, and what comes after it
-  pub line-put : (after bs : List ℕ) (n : ℕ) (next : Stage) → length bs ≡ n → 0 < n → n ≤ 60 → after ≡ putAt out at bs → listingFrom s r stage ≡ bs ++ listingFrom s r next
-      → LineIs s r stage out at after (record { length = n; stage = next })
-  line-put after bs n next l p m e h = record { line = bs; long = l; most = m; put = e; rest = h; done = λ z. absurd (omega arith) }
+  module _ (line : List ℕ) (n : ℕ) (next : Stage) (l : length line ≡ n) (h : linesFrom s r stage ≡ line ∷ linesFrom s r next) where
+    -- the next line does not fit
+    pub line-full : (q : Line) → q ≡ record { length = 0; stage = stage } → leb (at + n) (length out) ≡ false → 0 < n → LineIs s r stage out at out q
+    line-full q e f p =
+        let i = leb-false (at + n) (length out) f in
+        let t = lt-leb (length line) (length out - at) (omega arith) in
+        rw e (record { long = rw (h, t); put = rw (h, t) (sym (putAt-none out at)); rest = rw (h, t) })
+
+    -- it does
+    pub line-put : (after : List ℕ) → after ≡ putAt out at line → leb (at + n) (length out) ≡ true → LineIs s r stage out at after (record { length = n; stage = next })
+    line-put after e f =
+        let i = leb-true (at + n) (length out) f in
+        let t = le-leb (length line) (length out - at) (omega arith) in
+        record { long = rw (h, t) (sym l); put = rw (h, t) e; rest = rw (h, t) }
 
 -- the stage that it is
 pub stage-as : (s : List ℕ) (r : HpsReader) (out : List ℕ) (at : ℕ) {t u : Stage} {after : List ℕ} {q : Line} → t ≡ u → LineIs s r u out at after q → LineIs s r t out at after q
 stage-as s r out at e l = rw e l
 
--- two stages with the same listing
-pub listing-as : {s : List ℕ} {r : HpsReader} {out : List ℕ} {at : ℕ} {t u : Stage} {after : List ℕ} {q : Line} → listingFrom s r t ≡ listingFrom s r u → LineIs s r u out at after q → LineIs s r t out at after q
-listing-as e l = record { line = l .line; long = l .long; most = l .most; put = l .put; rest = e ∙ l .rest; done = l .done }
+-- two stages with the same lines
+pub lines-as : (s : List ℕ) (r : HpsReader) (out : List ℕ) (at : ℕ) {t u : Stage} {after : List ℕ} {q : Line} → linesFrom s r t ≡ linesFrom s r u → LineIs s r u out at after q → LineIs s r t out at after q
+lines-as s r out at e l = record { long = rw e (l .long); put = rw e (l .put); rest = rw e (l .rest) }
 
 pub cursor-as : (s : List ℕ) (r : HpsReader) (out : List ℕ) (at : ℕ) {n : ℕ} {c d : CueIterator} {after : List ℕ} {q : Line} → c ≡ d → LineIs s r (Stage.Cues n c) out at after q → LineIs s r (Stage.Cues n d) out at after q
 cursor-as s r out at e l = rw (← e) l
@@ -49,8 +60,8 @@ cursor-as s r out at e l = rw (← e) l
 pub some : (n : ℕ) → (n ≡ 0 → ⊥) → 0 < n
 some n h = omega arith
 
-pub cues-gone : (s : List ℕ) (r : HpsReader) (n : ℕ) (c : CueIterator) → n ≡ 0 → listingFrom s r (Stage.Cues n c) ≡ []
-cues-gone s r n c e = ap (λ (m : ℕ). listingFrom s r (Stage.Cues m c)) e ∙ cues-none s r c
+pub cues-gone : (s : List ℕ) (r : HpsReader) (n : ℕ) (c : CueIterator) → n ≡ 0 → linesFrom s r (Stage.Cues n c) ≡ []
+cues-gone s r n c e = ap (λ (m : ℕ). linesFrom s r (Stage.Cues m c)) e ∙ cues-none s r c
 
 refused-back : (a : CueAnswer) (n : ℕ) → cueReply a ≡ CueReply.Refused n → a ≡ CueAnswer.refused n
 refused-back (CueAnswer.refused m) n e = let x : m ≡ n = cc in ap CueAnswer.refused x
@@ -83,73 +94,112 @@ module _ (s : List ℕ) (r : HpsReader) (n : ℕ) (c : CueIterator) (some : 0 < 
   cursor-is : cueStep s r c .after ≡ call .cursor
   cursor-is = sym (ap (λ (x : CueCall). x .cursor) e)
 
-  pub after-refused : (k : ℕ) → call .reply ≡ CueReply.Refused k → listingFrom s r (Stage.Cues n c) ≡ []
+  pub after-refused : (k : ℕ) → call .reply ≡ CueReply.Refused k → linesFrom s r (Stage.Cues n c) ≡ []
   after-refused k h = cues-refused s r n c some k (refused-back _ k (answer _ h))
 
-  pub after-end : call .reply ≡ CueReply.End → listingFrom s r (Stage.Cues n c) ≡ []
+  pub after-end : call .reply ≡ CueReply.End → linesFrom s r (Stage.Cues n c) ≡ []
   after-end h = cues-end s r n c some (end-back _ (answer _ h))
 
-  pub after-loop : (b : ℕ) → call .reply ≡ CueReply.Loop b → listingFrom s r (Stage.Cues n c) ≡ loopLine b ++ listingFrom s r (Stage.Cues (n - 1) (call .cursor))
-  after-loop b h = cues-loop s r n c some b (loop-back _ b (answer _ h)) ∙ ap (λ (x : CueIterator). loopLine b ++ listingFrom s r (Stage.Cues (n - 1) x)) cursor-is
+  pub after-loop : (b : ℕ) → call .reply ≡ CueReply.Loop b → linesFrom s r (Stage.Cues n c) ≡ loopLine b ∷ linesFrom s r (Stage.Cues (n - 1) (call .cursor))
+  after-loop b h = cues-loop s r n c some b (loop-back _ b (answer _ h)) ∙ ap (λ (x : CueIterator). loopLine b ∷ linesFrom s r (Stage.Cues (n - 1) x)) cursor-is
 
-  pub after-point : (b k : ℕ) → call .reply ≡ CueReply.Point b k → listingFrom s r (Stage.Cues n c) ≡ cueLine b k ++ listingFrom s r (Stage.Cues (n - 1) (call .cursor))
-  after-point b k h = cues-point s r n c some b k (point-back _ b k (answer _ h)) ∙ ap (λ (x : CueIterator). cueLine b k ++ listingFrom s r (Stage.Cues (n - 1) x)) cursor-is
+  pub after-point : (b k : ℕ) → call .reply ≡ CueReply.Point b k → linesFrom s r (Stage.Cues n c) ≡ cueLine b k ∷ linesFrom s r (Stage.Cues (n - 1) (call .cursor))
+  after-point b k h = cues-point s r n c some b k (point-back _ b k (answer _ h)) ∙ ap (λ (x : CueIterator). cueLine b k ∷ linesFrom s r (Stage.Cues (n - 1) x)) cursor-is
 
 -- ---- Filling
 
--- The lines put so far.
+none : (l : List ℕ) → length l ≡ 0 → l ≡ []
+none [] e = refl
+none (x ∷ l) e = absurd (omega arith)
+
+-- The lines put so far: with those that still fit they are all that fit, and those beyond are the same.
 pub record Filling (s : List ℕ) (r : HpsReader) (from : Stage) (before : List ℕ) (out : List ℕ) (stage : Stage) (at : ℕ) : Type 0 where
   pub lines : List ℕ
   pub long : length lines ≡ at
   pub fits : at ≤ length before
   pub same : length out ≡ length before
   pub is : out ≡ putAt before 0 lines
-  pub rest : listingFrom s r from ≡ lines ++ listingFrom s r stage
+  pub all : linesFitting (length before) (linesFrom s r from) ≡ lines ++ linesFitting (length before - at) (linesFrom s r stage)
+  pub beyond : linesBeyond (length before) (linesFrom s r from) ≡ linesBeyond (length before - at) (linesFrom s r stage)
 
 module _ {s : List ℕ} {r : HpsReader} {from : Stage} {before : List ℕ} where
   pub filling-none : Filling s r from before before from 0
-  filling-none = record { lines = []; long = refl; fits = omega arith; same = refl; is = sym (putAt-none before 0); rest = refl }
+  filling-none =
+      let z : length before - 0 ≡ length before = omega arith in
+      record { lines = []; long = refl; fits = omega arith; same = refl; is = sym (putAt-none before 0); all = rw z; beyond = rw z }
 
-  module _ {out : List ℕ} {stage : Stage} {at : ℕ} (f : Filling s r from before out stage at) where
+  module _ {out : List ℕ} {stage : Stage} {at : ℕ} (f : Filling s r from before out stage at) {after : List ℕ} {q : Line} (l : LineIs s r stage out at after q) where
+    abbrev ls : List (List ℕ)
+    ls = linesFrom s r stage
+
+    abbrev room : ℕ
+    room = length before - at
+
+    -- the line that was put, by the buffer's length at the start
+    long-line : q .length ≡ length (lineFitting room ls)
+    long-line = l .long ∙ ap (λ (n : ℕ). length (lineFitting (n - at) ls)) (f .same)
+
+    put-line : after ≡ putAt out at (lineFitting room ls)
+    put-line = l .put ∙ ap (λ (n : ℕ). putAt out at (lineFitting (n - at) ls)) (f .same)
+
+    rest-line : linesFrom s r (q .stage) ≡ linesAfter room ls
+    rest-line = l .rest ∙ ap (λ (n : ℕ). linesAfter (n - at) ls) (f .same)
+
+    same-room : room - length (lineFitting room ls) ≡ length before - (at + q .length)
+    same-room = omega (arith, long-line)
+
     -- one line more
-    pub filling-more : {after : List ℕ} {q : Line} → at + 60 ≤ length before → LineIs s r stage out at after q → Filling s r from before after (q .stage) (at + q .length)
-    filling-more {after} {q} h l =
-        let m = l .most in
-        let a = length-append (f .lines) (l .line) in
+    pub filling-more : Filling s r from before after (q .stage) (at + q .length)
+    filling-more =
+        let w = lineFitting room ls in
+        let k = first-fits room ls in
         let x = f .long in
-        let y = l .long in
-        let p : putAt (putAt before 0 (f .lines)) (0 + length (f .lines)) (l .line) ≡ putAt before 0 (f .lines ++ l .line) = putAt-next before 0 (f .lines) (l .line) (omega arith) in
+        let y = long-line in
+        let h = f .fits in
         let n : at ≡ 0 + length (f .lines) = omega arith in
+        let a = length-append (f .lines) w in
         record {
-          lines = f .lines ++ l .line;
+          lines = f .lines ++ w;
           long = omega arith;
           fits = omega arith;
-          same = ap length (l .put) ∙ putAt-length out at (l .line) ∙ f .same;
-          is = l .put ∙ ap (λ (b : List ℕ). putAt b at (l .line)) (f .is) ∙ ap (λ (k : ℕ). putAt (putAt before 0 (f .lines)) k (l .line)) n ∙ p;
-          rest = f .rest ∙ ap (λ (b : List ℕ). f .lines ++ b) (l .rest) ∙ sym (append-assoc (f .lines) (l .line) (listingFrom s r (q .stage)));
+          same = ap length put-line ∙ putAt-length out at w ∙ f .same;
+          is = put-line ∙ ap (λ (b : List ℕ). putAt b at w) (f .is) ∙ ap (λ (m : ℕ). putAt (putAt before 0 (f .lines)) m w) n ∙ putAt-next before 0 (f .lines) w (omega arith);
+          all =
+              f .all ∙ ap (λ (b : List ℕ). f .lines ++ b) (fitting-next room ls ∙ ap (λ (m : ℕ). w ++ linesFitting m (linesAfter room ls)) same-room ∙ ap (λ (b : List (List ℕ)). w ++ linesFitting (length before - (at + q .length)) b) (sym rest-line))
+              ∙ sym (append-assoc (f .lines) w (linesFitting (length before - (at + q .length)) (linesFrom s r (q .stage))));
+          beyond = f .beyond ∙ beyond-next room ls ∙ ap (λ (m : ℕ). linesBeyond m (linesAfter room ls)) same-room ∙ ap (linesBeyond (length before - (at + q .length))) (sym rest-line);
         }
 
-    -- no line was left
-    pub filled-done : {after : List ℕ} {q : Line} → at + 60 ≤ length before → LineIs s r stage out at after q → q .length ≡ 0 → FilledIs s r from before after (record { length = at; stage = Stage.Done })
-    filled-done {after} {q} h l z =
-        let g = filling-more h l in
-        let n : at + q .length ≡ at = omega arith in
+    -- no line was put
+    pub filled : q .length ≡ 0 → FilledIs s r from before after (record { length = at; stage = q .stage })
+    filled z =
+        let e : length (lineFitting room ls) ≡ 0 = sym long-line ∙ z in
+        let u = full room ls (sized s r stage) e in
+        let a : linesFitting (length before) (linesFrom s r from) ≡ f .lines = f .all ∙ ap (λ (b : List ℕ). f .lines ++ b) (u .put) ∙ append-nil (f .lines) in
         record {
-          lines = g .lines;
-          long = g .long ∙ n;
-          fits = f .fits;
-          put = g .is;
-          rest = g .rest ∙ ap (λ (t : Stage). g .lines ++ listingFrom s r t) (l .done z);
-          done = λ a. refl;
+          long = sym (f .long) ∙ ap length (sym a);
+          put = put-line ∙ ap (putAt out at) (none (lineFitting room ls) e) ∙ putAt-none out at ∙ f .is ∙ ap (putAt before 0) (sym a);
+          rest = rest-line ∙ sym (u .left) ∙ sym (f .beyond);
         }
 
-    -- the buffer is full
-    pub filled-all : length before < at + 60 → FilledIs s r from before out (record { length = at; stage = stage })
-    filled-all h = record { lines = f .lines; long = f .long; fits = f .fits; put = f .is; rest = f .rest; done = λ a. absurd (omega arith) }
+-- ---- What is filled
 
--- the lines are the first bytes of the buffer
-pub filled-prefix : {s : List ℕ} {r : HpsReader} {stage : Stage} {before after : List ℕ} {q : Line} → FilledIs s r stage before after q → q .length ≡ length (take (q .length) after)
-filled-prefix {before = before} {after = after} {q = q} f =
-    let e : length after ≡ length before = ap length (f .put) ∙ putAt-length before 0 (f .lines) in
-    let l : q .length ≤ length after = omega (arith, f .fits) in
-    sym (length-take-le (q .length) after l)
+module _ {s : List ℕ} {r : HpsReader} {stage : Stage} {before after : List ℕ} {q : Line} (f : FilledIs s r stage before after q) where
+  pub filled-fits : q .length ≤ length before
+  filled-fits = omega (arith, f .long, fitting-fits (length before) (linesFrom s r stage))
+
+  pub filled-inside : q .length ≤ length after
+  filled-inside = omega (arith, filled-fits, ap length (f .put) ∙ putAt-length before 0 (linesFitting (length before) (linesFrom s r stage)))
+
+  -- the lines are the first bytes of the buffer
+  pub filled-prefix : q .length ≡ length (take (q .length) after)
+  filled-prefix = sym (length-take-le (q .length) after filled-inside)
+
+  -- with those after them they are the listing
+  pub filled-rest : listingFrom s r stage ≡ linesFitting (length before) (linesFrom s r stage) ++ listingFrom s r (q .stage)
+  filled-rest = rw (f .rest) (fitting-beyond (length before) (linesFrom s r stage))
+
+  -- none is left where none was put and the longest has room
+  pub filled-none : 60 ≤ length before → q .length ≡ 0 → listingFrom s r (q .stage) ≡ []
+  unfolding flatten
+  filled-none h z = rw (f .rest, none-left (length before) (linesFrom s r stage) (sized s r stage) h (sym (f .long) ∙ z))

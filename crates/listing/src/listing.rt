@@ -9,12 +9,12 @@ use cue_reader::CueReply;
 use cue_reader::next_cue;
 use cue_starts::first_cursor;
 use layout::answers::HeaderRead;
+use layout::fields::inside;
 use reader::CueIterator;
 use reader::HpsReader;
 use records::block::read_header;
 ghost use mathlib.Core.Path.{_≡_};
-ghost use Prim.Native.Nat.{_+_, _≤_, _<_};
-ghost use lib.ListN.{length};
+ghost use Prim.Native.Nat.{_<_};
 ghost use Rattle.reader.specs.OpeningAndReading.{Readable};
 ghost use Rattle.listing.specs.Filling.{LineIs, FilledIs};
 
@@ -24,35 +24,32 @@ pub const KEY_LIMIT: usize = 65536;
 // As many cue calls as an opened slot can need: 512 blocks of 255 cues, the Loop and the end.
 const CUE_CALLS: usize = 130562;
 
-// The longest line, a block's.
-const LONGEST: usize = 60;
-
-// A line that was put, and what comes after it; no line where the listing is done.
+// A line that was put, of length 0 where none is left or the next one does not fit, and what comes after it.
 pub struct Line {
     pub length: usize,
     pub stage: Stage,
 }
 
-fn done() -> Line
-    ensures { λ q. ⌜ q ≡ record { length = 0; stage = Stage.Done } ⌝ }
+fn no_line(stage: Stage) -> Line
+    ensures { λ q. ⌜ q ≡ record { length = 0; stage = stage } ⌝ }
 {
-    Line {
-        length: 0,
-        stage: Stage::Done,
-    }
+    Line { length: 0, stage }
 }
 
 ghost use Rattle.listing.specs.declared.Stage.{Stage};
 
 // The line of block i.
 fn block_line(s: &[u8], r: HpsReader, i: usize, out: &mut [u8], at: usize) -> Line
-    requires { ⌜ (Readable r × (i < r .blocks)) × (at + 60 ≤ length (now out)) ⌝ }
+    requires { ⌜ Readable r × (i < r .blocks) ⌝ }
     ensures { λ q. ⌜ LineIs (now (s .entry)) r (Stage.Blocks i) (now (out .entry)) at (now (out .exit)) q ⌝ }
 {
     let offset = r.offsets[i];
     let HeaderRead::Value(header) = read_header(s, offset) else {
-        return done();
+        return no_line(Stage::Done);
     };
+    if !inside(out.len(), at, 60) {
+        return no_line(Stage::Blocks(i));
+    }
     let left = r.channels[0];
     let format = left.format;
     put_block(out, at, format, i, offset, header);
@@ -64,19 +61,22 @@ fn block_line(s: &[u8], r: HpsReader, i: usize, out: &mut [u8], at: usize) -> Li
 
 // The line of the next cue, where so many calls may still be made.
 fn cue_line(s: &[u8], r: HpsReader, calls: usize, c: CueIterator, out: &mut [u8], at: usize) -> Line
-    requires { ⌜ Readable r × (at + 60 ≤ length (now out)) ⌝ }
+    requires { ⌜ Readable r ⌝ }
     ensures { λ q. ⌜ LineIs (now (s .entry)) r (Stage.Cues calls c) (now (out .entry)) at (now (out .exit)) q ⌝ }
 {
     if calls == 0 {
-        return done();
+        return no_line(Stage::Done);
     }
     let call = next_cue(s, r, c);
     let reply = call.reply;
     let cursor = call.cursor;
     match reply {
-        CueReply::Refused(_) => done(),
-        CueReply::End => done(),
+        CueReply::Refused(_) => no_line(Stage::Done),
+        CueReply::End => no_line(Stage::Done),
         CueReply::Loop(start) => {
+            if !inside(out.len(), at, 26) {
+                return no_line(Stage::Cues(calls, c));
+            }
             put_loop(out, at, start);
             Line {
                 length: 26,
@@ -84,6 +84,9 @@ fn cue_line(s: &[u8], r: HpsReader, calls: usize, c: CueIterator, out: &mut [u8]
             }
         }
         CueReply::Point(start, id) => {
+            if !inside(out.len(), at, 37) {
+                return no_line(Stage::Cues(calls, c));
+            }
             put_cue(out, at, start, id);
             Line {
                 length: 37,
@@ -93,12 +96,16 @@ fn cue_line(s: &[u8], r: HpsReader, calls: usize, c: CueIterator, out: &mut [u8]
     }
 }
 
+// The next line from an offset of the buffer on, where there is one and it fits.
 fn put_line(s: &[u8], r: HpsReader, stage: Stage, out: &mut [u8], at: usize) -> Line
-    requires { ⌜ Readable r × (at + 60 ≤ length (now out)) ⌝ }
+    requires { ⌜ Readable r ⌝ }
     ensures { λ q. ⌜ LineIs (now (s .entry)) r stage (now (out .entry)) at (now (out .exit)) q ⌝ }
 {
     match stage {
         Stage::Stop(number) => {
+            if !inside(out.len(), at, 16) {
+                return no_line(Stage::Stop(number));
+            }
             put_stop(out, at, number);
             Line {
                 length: 16,
@@ -106,6 +113,9 @@ fn put_line(s: &[u8], r: HpsReader, stage: Stage, out: &mut [u8], at: usize) -> 
             }
         }
         Stage::Head => {
+            if !inside(out.len(), at, 49) {
+                return no_line(Stage::Head);
+            }
             put_head(out, at, r);
             Line {
                 length: 49,
@@ -121,27 +131,23 @@ fn put_line(s: &[u8], r: HpsReader, stage: Stage, out: &mut [u8], at: usize) -> 
             }
         }
         Stage::Cues(calls, c) => cue_line(s, r, calls, c, out, at),
-        Stage::Done => done(),
+        Stage::Done => no_line(Stage::Done),
     }
 }
 
-// As many whole lines as fit, from the buffer's start, and the stage after them. A buffer of 60 bytes or more takes a line at least, if one is left.
+// As many whole lines as fit, from the buffer's start, their bytes, and the stage after them. A buffer of 60 bytes or more takes a line at least, if one is left.
 pub fn fill(s: &[u8], r: HpsReader, from: Stage, out: &mut [u8]) -> Line
     requires { ⌜ Readable r ⌝ }
     ensures { λ q. ⌜ FilledIs (now (s .entry)) r from (now (out .entry)) (now (out .exit)) q ⌝ }
 {
     let mut stage = from;
     let mut at: usize = 0;
-    while LONGEST <= out.len() - at {
+    loop {
         let line = put_line(s, r, stage, out, at);
+        stage = line.stage;
         if line.length == 0 {
-            return Line {
-                length: at,
-                stage: Stage::Done,
-            };
+            return Line { length: at, stage };
         }
         at += line.length;
-        stage = line.stage;
     }
-    Line { length: at, stage }
 }

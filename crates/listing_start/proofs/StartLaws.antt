@@ -1,5 +1,5 @@
 -- What an opening's answer tells, and where the listing starts by it.
-use Prim.Native.Nat.{ℕ, _-_, _<_, _≤_}
+use Prim.Native.Nat.{ℕ, _<_, _≤_}
 use mathlib.Core.Path.{_≡_, refl, ap, sym, _∙_}
 use mathlib.Core.List.{List}
 use native.Mathlib.Omega.{arith}
@@ -11,7 +11,7 @@ use lib.ListN.{length}
 use borrow.Author.Tests.{lt-ltb, le-ltb}
 use Rattle.reader.specs.declared.HpsReader.{HpsReader}
 use Rattle.listing.specs.declared.Stage.{Stage}
-use Rattle.listing.specs.MarkingKey.{listing, listingFrom}
+use Rattle.listing.specs.MarkingKey.{listingLines, linesFrom}
 
 refused-back : (o : Opened) (n : ℕ) → openCall o .reply ≡ OpenReply.Refused n → o ≡ Opened.refused n
 refused-back (Opened.refused m) n e = let x : m ≡ n = cc in ap Opened.refused x
@@ -32,14 +32,14 @@ module _ (s : List ℕ) (q : OpenCall) (e : q ≡ openCall (opening s)) where
 -- ---- Where the listing starts
 
 module _ (s : List ℕ) (r : HpsReader) where
-  pub start-long : 65536 < length s → listingFrom s r (Stage.Stop 7) ≡ listing s
-  unfolding listingFrom listing
+  pub start-long : 65536 < length s → linesFrom s r (Stage.Stop 7) ≡ listingLines s
+  unfolding linesFrom listingLines
   start-long h = rw (lt-ltb 65536 (length s) h)
 
-  pub start-refused : length s ≤ 65536 → (n : ℕ) → opening s ≡ Opened.refused n → listingFrom s r (Stage.Stop n) ≡ listing s
-  unfolding listingFrom listing
+  pub start-refused : length s ≤ 65536 → (n : ℕ) → opening s ≡ Opened.refused n → linesFrom s r (Stage.Stop n) ≡ listingLines s
+  unfolding linesFrom listingLines
   start-refused h n e = rw (le-ltb 65536 (length s) h) (rw e)
 
-  pub start-opened : length s ≤ 65536 → opening s ≡ Opened.opened r → listingFrom s r Stage.Head ≡ listing s
-  unfolding listingFrom listing
+  pub start-opened : length s ≤ 65536 → opening s ≡ Opened.opened r → linesFrom s r Stage.Head ≡ listingLines s
+  unfolding linesFrom listingLines
   start-opened h e = rw (le-ltb 65536 (length s) h) (rw e)

@@ -6,7 +6,7 @@ use reader::HpsReader;
 use reader::answers::OpenReply;
 ghost use mathlib.Core.Path.{_≡_};
 ghost use Rattle.reader.specs.OpeningAndReading.{Readable};
-ghost use Rattle.listing.specs.MarkingKey.{listing, listingFrom};
+ghost use Rattle.listing.specs.MarkingKey.{listingLines, linesFrom};
 
 pub struct Listing {
     pub stage: Stage,
@@ -14,7 +14,7 @@ pub struct Listing {
 }
 
 pub fn start_listing(s: &[u8]) -> Listing
-    ensures { λ q. ⌜ listingFrom (now (s .entry)) (q .reader) (q .stage) ≡ listing (now (s .entry)) ⌝ }
+    ensures { λ q. ⌜ linesFrom (now (s .entry)) (q .reader) (q .stage) ≡ listingLines (now (s .entry)) ⌝ }
     ensures { λ q. ⌜ Readable (q .reader) ⌝ }
 {
     let call = open(s);

@@ -11,8 +11,9 @@ use borrow.Author.Tests.{eqb-true, eqb-false}
 use Rattle.layout.proofs.Cases.{by-cases}
 use Rattle.puts.proofs.PutLaws.{putAt-in, putAt-length}
 use Rattle.reader.specs.declared.HpsReader.{HpsReader}
-use Rattle.listing.specs.MarkingKey.{listingFrom}
+use Rattle.listing.specs.MarkingKey.{linesFrom, listingFrom, linesFitting}
 use Rattle.listing.specs.Filling.{FilledIs}
+use Rattle.listing.proofs.LineLaws.{filled-fits, filled-rest, filled-none}
 use Rattle.listing.specs.declared.Stage.{Stage}
 use Rattle.listing.specs.declared.listing.Line.{Line}
 use Rattle.printing.specs.declared.Portion.{Portion}
@@ -32,28 +33,30 @@ unfolding stillListed
 used-up s r p out n = let z : p .end - p .at ≡ 0 = omega arith in rw z
 
 module _ {s : List ℕ} {r : HpsReader} {stage : Stage} {before after : List ℕ} {x : Line} (f : FilledIs s r stage before after x) where
+  abbrev lines : List ℕ
+  lines = linesFitting (length before) (linesFrom s r stage)
+
   -- the lines are the first bytes of the buffer
-  first-lines : take (x .length) after ≡ f .lines
+  first-lines : take (x .length) after ≡ lines
   first-lines =
-      let l = f .long in
-      let h : 0 + length (f .lines) ≤ length before = omega (arith, f .fits) in
-      rw (f .put, putAt-in before 0 (f .lines) h) (take-at (f .lines) _ (x .length) l)
+      let h : 0 + length lines ≤ length before = omega (arith, f .long, filled-fits f) in
+      rw (f .put, putAt-in before 0 lines h) (take-at lines _ (x .length) (sym (f .long)))
 
   -- less is still to be listed
   pub less-listed : (x .length ≡ 0 → ⊥) → length (listingFrom s r (x .stage)) < length (listingFrom s r stage)
-  less-listed h = omega (arith, f .long, ap length (f .rest), length-append (f .lines) (listingFrom s r (x .stage)))
+  less-listed h = omega (arith, f .long, ap length (filled-rest f), length-append lines (listingFrom s r (x .stage)))
 
   -- the next portion
   pub more-filled : {p : Portion} → p .stage ≡ stage → p .end ≤ p .at → 60 ≤ length before → MoreIs s r p before (record { stage = x .stage; at = 0; end = x .length }) after
-  unfolding stillListed listingFrom
+  unfolding stillListed
   more-filled {p} e n b =
-      let l : length after ≡ length before = ap length (f .put) ∙ putAt-length before 0 (f .lines) in
+      let l : length after ≡ length before = ap length (f .put) ∙ putAt-length before 0 lines in
       let whole : x .length - 0 ≡ x .length = omega arith in
       record {
-        held = record { order = omega arith; inside = omega (arith, f .fits) };
+        held = record { order = omega arith; inside = omega (arith, filled-fits f) };
         long = l;
-        same = rw whole (ap (λ (l : List ℕ). l ++ listingFrom s r (x .stage)) first-lines ∙ sym (f .rest) ∙ ap (listingFrom s r) (sym e) ∙ sym (used-up s r p before n));
-        ended = λ z. let d : x .stage ≡ Stage.Done = f .done (omega arith) in rw (← z, d);
+        same = rw whole (ap (λ (l : List ℕ). l ++ listingFrom s r (x .stage)) first-lines ∙ sym (filled-rest f) ∙ ap (listingFrom s r) (sym e) ∙ sym (used-up s r p before n));
+        ended = λ z. rw (← z) (filled-none f b (sym z));
       }
 
 -- the portion as it is
@@ -156,5 +159,5 @@ module _ {a b whole whole2 : List ℕ} {r q : HpsReader} {p p2 left right : Port
 
 -- Both are refused with the same number.
 pub same-stops : {x y : Stage} {n m : ℕ} → x ≡ Stage.Stop n → y ≡ Stage.Stop m → n ≡ m → (s t : List ℕ) (r q : HpsReader) → listingFrom s r x ≡ listingFrom t q y
-unfolding listingFrom
+unfolding linesFrom
 same-stops d e i s t r q = rw (d, e, i)

@@ -2,7 +2,7 @@ use borrow.Author.Needs.{needs}
 use mathlib.Core.Path.{_≡_}
 use lib.ListN.{length}
 use Rattle.listing.specs.MarkingKey.{listingFrom}
-use Rattle.listing.proofs.LineLaws.{filled-prefix}
+use Rattle.listing.proofs.LineLaws.{filled-inside, filled-prefix}
 use Rattle.printing.proofs.PortionLaws.{less-listed}
 use Rattle.printing.proofs.print_listing.Statement.{statement}
 use Rattle.printing.proofs.print_listing.Tie as tie
@@ -32,7 +32,7 @@ returns : tie.Need-returns Inv-loop μ-loop
 returns c = search needs
 
 array-share-prefix-out : tie.Need-array-share-prefix-out Inv-loop μ-loop
-array-share-prefix-out c = search needs
+array-share-prefix-out c = filled-inside (c .before .before .fill .ensures)
 
 slice-aggregate-write-all : tie.Need-slice-aggregate-write-all Inv-loop μ-loop
 slice-aggregate-write-all c = filled-prefix (c .before .before .before .fill .ensures)

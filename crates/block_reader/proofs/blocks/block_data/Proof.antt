@@ -1,10 +1,9 @@
-use mathlib.Core.Path.{sym, ap, _∙_}
+use mathlib.Core.Path.{refl, sym, ap, _∙_}
 use native.Mathlib.Omega.{arith}
 use denote.Ref.{now}
 use Rattle.layout.specs.declared.Channel.{Channel}
-use Rattle.block_reader.specs.BlockAnswers.{blockData}
 use Rattle.reader.proofs.PartsLaws.{no-channel, past-last}
-use Rattle.block_reader.proofs.BlockLaws.{Given, not-given, given, data-given}
+use Rattle.block_reader.proofs.BlockLaws.{Given, not-given, given, data-given, no-part}
 use borrow.Author.Needs.{needs}
 use Rattle.block_reader.proofs.blocks.block_data.Statement.{statement}
 use Rattle.block_reader.proofs.blocks.block_data.Tie as tie
@@ -15,7 +14,7 @@ slice-aggregate-result c = search needs
 returns : tie.Need-returns
 returns c =
     let a = c .before .before .before .args in
-    sym (ap blockData (no-channel (now (a .s)) (a .t2) (a .channel) (a .position) (c .before .if1 .taken)))
+    no-part (a .s .ptr) (no-channel (now (a .s)) (a .t2) (a .channel) (a .position) (c .before .if1 .taken)) refl refl
 
 slice-aggregate-result-2 : tie.Need-slice-aggregate-result-2
 slice-aggregate-result-2 c = search needs
@@ -23,7 +22,7 @@ slice-aggregate-result-2 c = search needs
 returns-2 : tie.Need-returns-2
 returns-2 c =
     let a = c .before .before .before .before .args in
-    sym (ap blockData (past-last (now (a .s)) (a .t2) (a .channel) (a .position) (c .before .before .if1 .left) (c .before .if2 .taken)))
+    no-part (a .s .ptr) (past-last (now (a .s)) (a .t2) (a .channel) (a .position) (c .before .before .if1 .left) (c .before .if2 .taken)) refl refl
 
 mul-offset : tie.Need-mul-offset
 mul-offset c = search needs
@@ -49,8 +48,9 @@ slice-aggregate-result-3 c = search needs
 returns-3 : tie.Need-returns-3
 returns-3 c =
     let a = c .before .before .before .before .before .before .before .before .before .before .args in
-    sym (ap blockData
-    (not-given (now (a .s)) (a .t2) (a .channel) (a .position) (c .before .before .before .before .before .before .before .before .if1 .left) (c .before .before .before .before .before .before .before .if2 .left) _ (sym (ap (λ (x : Channel). x .format) (c .before .before .before .before .channel-of .ensures))) (sym (c .before .enum-told .given .1) ∙ c .before .before .before .find-data .ensures)))
+    no-part (a .s .ptr)
+    (not-given (now (a .s)) (a .t2) (a .channel) (a .position) (c .before .before .before .before .before .before .before .before .if1 .left) (c .before .before .before .before .before .before .before .if2 .left) _ (sym (ap (λ (x : Channel). x .format) (c .before .before .before .before .channel-of .ensures))) (sym (c .before .enum-told .given .1) ∙ c .before .before .before .find-data .ensures))
+    refl refl
 
 -- what is known of the data that was found
 at-found : (c : tie.After-known-told) → (let a = c .before .before .before .before .before .before .before .before .before .before .args in Given (now (a .s)) (a .t2) (a .channel) (a .position) (c .before .found .given .0 .0))
@@ -70,7 +70,7 @@ part-result-end c = omega (arith, at-found c .inside)
 returns-4 : tie.Need-returns-4
 returns-4 c =
     let a = c .before .before .before .before .before .before .before .before .before .before .before .args in
-    data-given (now (a .s)) (a .t2) (a .channel) (a .position) (c .before .before .found .given .0 .0) (at-found (c .before))
+    data-given (now (a .s)) (a .t2) (a .channel) (a .position) (c .before .before .found .given .0 .0) (at-found (c .before)) (a .s .ptr)
 
 pub block-data-spec : {M : Type 1} → statement M
 block-data-spec =

@@ -2,10 +2,6 @@ use borrow.Author.Needs.{needs}
 use Rattle.hps.proofs.ExportedLaws.{listed}
 use Rattle.hps.proofs.reading.hps_listing.Statement.{statement}
 use Rattle.hps.proofs.reading.hps_listing.Tie as tie
-use Rattle.hps.proofs.reading.hps_listing.Reads as reads
-use Rattle.hps.proofs.reading.hps_listing.Lts as lts
-use Rattle.listing.proofs.listing.fill.Reads as fill-reads
-use Rattle.listing_start.proofs.start_listing.Reads as start-listing-reads
 
 start-listing-requires : tie.Need-start-listing-requires
 start-listing-requires c κs = tt
@@ -17,7 +13,7 @@ same-length : tie.Need-same-length
 same-length c = search needs
 
 returns : tie.Need-returns
-returns c = search (listed, needs)
+returns c = listed (c .before .before .fill .ensures) (c .before .before .before .before .before .start-listing .ensures .0)
 
 pub hps-listing-spec : {M : Type 1} → statement M
 hps-listing-spec = tie.close (tie.spec start-listing-requires fill-requires same-length returns)

@@ -3,7 +3,7 @@ use mathlib.Core.Path.{_≡_}
 use native.Mathlib.Omega.{arith}
 use lib.ListN.{length}
 use borrow.Author.Needs.{needs}
-use Rattle.listing.proofs.LineLaws.{filled-prefix}
+use Rattle.listing.proofs.LineLaws.{filled-fits, filled-inside, filled-prefix}
 use Rattle.replay.proofs.slot.is_listing.Statement.{statement}
 use Rattle.replay.proofs.slot.is_listing.Tie as tie
 use Rattle.replay.proofs.slot.is_listing.Reads as reads
@@ -46,7 +46,7 @@ returns c = search needs
 
 -- src/main.rt:50:18
 array-share-prefix-out : tie.Need-array-share-prefix-out Inv-loop μ-loop
-array-share-prefix-out c = search needs
+array-share-prefix-out c = filled-inside (c .before .before .fill .ensures)
 
 -- src/main.rt:50:18
 slice-aggregate-same : tie.Need-slice-aggregate-same Inv-loop μ-loop
@@ -66,7 +66,7 @@ returns-2 c = search needs
 
 -- src/main.rt:54:16
 add-done : tie.Need-add-done Inv-loop μ-loop
-add-done c = omega (arith, c .before .before .before .before .before .before .fill .ensures .fits)
+add-done c = omega (arith, filled-fits (c .before .before .before .before .before .before .fill .ensures))
 
 -- src/main.rt:55:9
 add-turns : tie.Need-add-turns Inv-loop μ-loop
@@ -78,7 +78,7 @@ loop-less c = search needs
 
 -- src/main.rt:44:5
 loop-again : tie.Need-loop-again Inv-loop μ-loop
-loop-again c = (search needs, omega arith, omega (arith, c .before .before .before .before .before .before .fill .ensures .fits))
+loop-again c = (search needs, omega arith, omega (arith, filled-fits (c .before .before .before .before .before .before .fill .ensures)))
 
 -- src/main.rt:37:1
 returns-3 : tie.Need-returns-3 Inv-loop μ-loop

@@ -55,7 +55,7 @@ returns c =
     let z = c .before .before .before .before .before .before .before in
     let a = z .args in
     line-done (now (a .s)) (a .t2) (Stage.Blocks (a .i)) (now (a .out)) (a .at) _ (c .done .ensures)
-    (block-short (now (a .s)) (a .t2) (shaped (a .t2) _ (z .good .1 .0) .offsets) (z .pre .0 .0 .blocks) (a .i) (z .pre .0 .1) 1 (header-short _ _ (c .before .before .before .read-header .ensures) (c .before .enum-told .given .1)))
+    (block-short (now (a .s)) (a .t2) (shaped (a .t2) _ (z .good .1 .0) .offsets) (z .pre .0 .0 .blocks) (a .i) (z .pre .0 .1) _ (header-short _ _ (c .before .before .before .read-header .ensures) (c .before .enum-told .given .1)))
 
 -- src/listing.rt:87:16
 element-copy-out-left : tie.Need-element-copy-out-left

@@ -6,7 +6,7 @@ use native.Mathlib.Omega.{arith}
 use borrow.Author.Tests.{lt-leb, leb-true, leb-false}
 use lib.ListN.{length, take, drop, length-take, length-drop}
 use lib.Dec.{leb}
-use Rattle.layout.specs.Records.{lengthIn, addressToByteUp}
+use Rattle.layout.specs.Records.{Read, lengthIn, addressToByteUp}
 use Rattle.layout.specs.declared.DspFormat.{DspFormat}
 use Rattle.layout.specs.declared.FrameContext.{FrameContext}
 use Rattle.layout.specs.declared.Channel.{Channel}
@@ -16,7 +16,6 @@ use Rattle.reader.specs.declared.HpsReader.{HpsReader}
 use Rattle.block_reader.specs.declared.blocks.BlockReply.{BlockReply}
 use Rattle.block_reader.specs.declared.blocks.BlockCall.{BlockCall}
 use Rattle.data_places.specs.declared.BlockData.{BlockData}
-use Rattle.data_places.specs.declared.DataRead.{DataRead}
 use Rattle.reader.specs.OpeningAndReading.{BlockAnswer, channelIn, offsetIn, contextIn, bytesIn, dataStart, dataPart, blockRead}
 use Rattle.data_places.specs.DataPlaces.{dataPlaced, dataFound}
 use Rattle.block_reader.specs.BlockAnswers.{blockCall, blockData, blockStart, bytesOn}
@@ -24,13 +23,13 @@ use Rattle.reader.proofs.HeaderLaws.{header-cases}
 use Rattle.reader.proofs.PartsLaws.{block-is}
 
 module _ (slot start n len : ℕ) (c : FrameContext) where
-  placed-out : dataPlaced slot start n len c ≡ DataRead.Short → slot < start + n
+  placed-out : {k : ℕ} → dataPlaced slot start n len c ≡ Read.refused k → (slot < start + n) × (k ≡ 1)
   placed-out e =
       by-cases (leb (start + n) slot)
-      (λ t. let k = rw t at e in absurd (let z : _≡_ {A = ℕ} 0 1 = cc in omega arith))
-      (λ t. leb-false (start + n) slot t)
+      (λ t. let q = rw t at e in absurd (let z : _≡_ {A = ℕ} 0 1 = cc in omega arith))
+      (λ t. let q = rw t at e in (leb-false (start + n) slot t, cc))
 
-  placed-in : (d : BlockData) → dataPlaced slot start n len c ≡ DataRead.Value d
+  placed-in : (d : BlockData) → dataPlaced slot start n len c ≡ Read.value d
       → (start + n ≤ slot) × (_≡_ {A = BlockData} (record { length = len; context = c; start = start; end = start + n }) d)
   placed-in d e =
       by-cases (leb (start + n) slot)
@@ -45,18 +44,18 @@ pub record Given (s : List ℕ) (r : HpsReader) (ch i : ℕ) (d : BlockData) : T
       ≡ BlockAnswer.gave (r .rate) (channelIn r ch .format) (channelIn r ch .coefficients) (channelIn r ch .gain) (d .length) (d .context) (d .start) (take (d .end - d .start) (drop (d .start) s)) (i + 1)
 
 module _ (s : List ℕ) (r : HpsReader) (ch i : ℕ) (p : ch < r .count) (q : i < r .blocks) (f : DspFormat) (ef : channelIn r ch .format ≡ f) where
-  pub not-given : DataRead.Short ≡ dataFound s (offsetIn r i) ch f → blockRead s r ch i ≡ BlockAnswer.refusedAt 1 (i + 1)
+  pub not-given : {k : ℕ} → dataFound s (offsetIn r i) ch f ≡ Read.refused k → blockRead s r ch i ≡ BlockAnswer.refusedAt k (i + 1)
   unfolding blockRead dataFound dataPart
-  not-given e =
+  not-given {k} e =
       header-cases s (offsetIn r i)
-      (λ t. rw (lt-leb (r .count) ch p) (rw (lt-leb (r .blocks) i q) (rw t)))
+      (λ t. let x : k ≡ 1 = let z = rw t at e in cc in rw (lt-leb (r .count) ch p) (rw (lt-leb (r .blocks) i q) (rw (t, x))))
       (λ h t.
       let n = addressToByteUp f (lengthIn h) in
       let start = dataStart (offsetIn r i) h ch n in
-      let l = placed-out (length s) start n (lengthIn h) (contextIn h ch) (sym (rw t at e)) in
-      rw (lt-leb (r .count) ch p) (rw (lt-leb (r .blocks) i q) (rw (t, ef) (rw (field-past s (start + n) (take n (drop start s)) l)))))
+      let l = placed-out (length s) start n (lengthIn h) (contextIn h ch) (rw t at e) in
+      rw (lt-leb (r .count) ch p) (rw (lt-leb (r .blocks) i q) (rw (t, ef) (rw (field-past s (start + n) (take n (drop start s)) (l .0), l .1)))))
 
-  pub given : (d : BlockData) → DataRead.Value d ≡ dataFound s (offsetIn r i) ch f → Given s r ch i d
+  pub given : (d : BlockData) → dataFound s (offsetIn r i) ch f ≡ Read.value d → Given s r ch i d
   unfolding dataFound dataPart
   given d e =
       header-cases s (offsetIn r i)
@@ -65,7 +64,7 @@ module _ (s : List ℕ) (r : HpsReader) (ch i : ℕ) (p : ch < r .count) (q : i 
       let k = rw (t, ← ef) at e in
       let n = bytesIn r h ch in
       let start = dataStart (offsetIn r i) h ch n in
-      let l = placed-in (length s) start n (lengthIn h) (contextIn h ch) d (sym k) in
+      let l = placed-in (length s) start n (lengthIn h) (contextIn h ch) d k in
       let m : start + n - start ≡ n = omega arith in
       rw (sym (l .1)) (record {
         order = omega arith;

@@ -81,8 +81,9 @@ pub fn read_block(s: &[u8], r: HpsReader, channel: usize, position: usize) -> Bl
     let channels = r.channels;
     let c = channel_of(channels, channel);
     let format = c.format;
-    let DataRead::Value(found) = find_data(s, offset, channel, format) else {
-        return no_block(BlockReply::Refused(1), position + 1);
+    let read = find_data(s, offset, channel, format);
+    let DataRead::Value(found) = read else {
+        return no_block(BlockReply::Refused(read.number()), position + 1);
     };
     let coefficients = c.coefficients;
     let context = found.context;

@@ -57,12 +57,13 @@ module _ (s : List ℕ) (r : HpsReader) (c : CueIterator) (block place base : �
     step-loop e g = g ∙ sym (ap cueCall (more ∙ at-loop s r c (offsetIn r block) (offsetsFrom r (block + 1)) block place base (c .due) e))
 
     module _ (e : c .due and loopHere (r .«loop_start») block ≡ false) where
-      short : readHeader s (offsetIn r block) ≡ Read.refused 1 → cueFrom s r c (offsetIn r block ∷ offsetsFrom r (block + 1)) block place base (c .due) ≡ stepped (CueAnswer.refused 1) c
+      stops : {n : ℕ} → readHeader s (offsetIn r block) ≡ Read.refused n
+          → cueFrom s r c (offsetIn r block ∷ offsetsFrom r (block + 1)) block place base (c .due) ≡ stepped (CueAnswer.refused n) c
       unfolding cueFrom
-      short q = rw e (rw q)
+      stops q = rw e (rw q)
 
-      pub step-short : readHeader s (offsetIn r block) ≡ Read.refused 1 → cueCalled (CueReply.Refused 1) c ≡ cueCall (cueStep s r c)
-      step-short q = sym (ap cueCall (more ∙ short q))
+      pub step-refused : {n : ℕ} → readHeader s (offsetIn r block) ≡ Read.refused n → cueCalled (CueReply.Refused n) c ≡ cueCall (cueStep s r c)
+      step-refused q = sym (ap cueCall (more ∙ stops q))
 
       pub step-here : (h : BlockHeader) → readHeader s (offsetIn r block) ≡ Read.value h → Here s r c block place base h
       step-here h q = record { same = more; loop = e; header = q }
@@ -112,8 +113,8 @@ module _ (s os : List ℕ) (n : ℕ) (start : LoopStart) (f : DspFormat) (c : Cu
       at : (r : HpsReader) → PartsOf r os n start f → (x : Read BlockHeader) → readHeader s (getD os block 0) ≡ x → readHeader s (offsetIn r block) ≡ x
       at r p x q = ap (λ (l : List ℕ). readHeader s (getD l block 0)) (p .offsets) ∙ q
 
-      pub all-short : readHeader s (getD os block 0) ≡ Read.refused 1 → (r : HpsReader) → PartsOf r os n start f → cueCalled (CueReply.Refused 1) c ≡ cueCall (cueStep s r c)
-      all-short q r p = step-short s r c block place base (w r p) (shape r p) (p .readable) (below r p) (no-loop r p) (at r p _ q)
+      pub all-refused : {k : ℕ} → readHeader s (getD os block 0) ≡ Read.refused k → (r : HpsReader) → PartsOf r os n start f → cueCalled (CueReply.Refused k) c ≡ cueCall (cueStep s r c)
+      all-refused q r p = step-refused s r c block place base (w r p) (shape r p) (p .readable) (below r p) (no-loop r p) (at r p _ q)
 
       module _ (h : BlockHeader) (q : readHeader s (getD os block 0) ≡ Read.value h) where
         here : (r : HpsReader) (p : PartsOf r os n start f) → Here s r c block place base h

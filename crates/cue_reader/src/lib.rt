@@ -37,8 +37,9 @@ pub struct CueCall {
 fn point_at(s: &[u8], at: usize, base: u64) -> CueReply
     ensures { λ q. ⌜ q ≡ pointRead base (field (now (s .entry)) (at + 8) (cueAt (now (s .entry)) at)) ⌝ }
 {
-    let CueRead::Value(point) = read_cue(s, at) else {
-        return CueReply::Refused(1);
+    let read = read_cue(s, at);
+    let CueRead::Value(point) = read else {
+        return CueReply::Refused(read.number());
     };
     CueReply::Point(cue_start(base, point.sample_index), point.id)
 }
@@ -78,9 +79,10 @@ pub fn cue_from(
             return stepped(CueReply::Loop(base), block, place, base, false);
         }
         let offset = offsets[block];
-        let HeaderRead::Value(header) = read_header(s, offset) else {
+        let read = read_header(s, offset);
+        let HeaderRead::Value(header) = read else {
             return CueCall {
-                reply: CueReply::Refused(1),
+                reply: CueReply::Refused(read.number()),
                 cursor: c,
             };
         };

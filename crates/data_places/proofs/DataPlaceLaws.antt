@@ -1,6 +1,6 @@
 -- Where a block's data lies.
 use Prim.Native.Nat.{ℕ, _+_, _*_, _≤_, _<_}
-use mathlib.Core.Path.{_≡_}
+use mathlib.Core.Path.{_≡_, refl}
 use mathlib.Core.List.{List}
 use native.Mathlib.Omega.{arith}
 use borrow.Author.Tests.{eq-eqb, ne-eqb}
@@ -11,9 +11,11 @@ use Rattle.layout.specs.declared.DspFormat.{DspFormat}
 use Rattle.layout.specs.declared.DspFormat.the-variants.{Adpcm, Pcm16, Pcm8}
 use Rattle.layout.specs.declared.BlockHeader.{BlockHeader}
 use Rattle.layout.proofs.SizeLaws.{saturated-fits}
+use Rattle.layout.proofs.FieldLaws.{Answers}
+use Rattle.data_places.specs.declared.BlockData.{BlockData}
 use Rattle.data_places.specs.declared.DataRead.{DataRead}
 use Rattle.reader.specs.OpeningAndReading.{dataStart}
-use Rattle.data_places.specs.DataPlaces.{dataPlaced, dataFound}
+use Rattle.data_places.specs.DataPlaces.{dataSays, dataPlaced, dataFound}
 use Rattle.reader.proofs.HeaderLaws.{P-above, header-inside}
 
 -- every end address, in every format
@@ -34,9 +36,12 @@ aligned-bytes f n h = saturated-fits (P (addressToByteUp f n)) (omega (arith, by
 pub aligned-small : (f : DspFormat) (n : ℕ) → n ≤ 4294967296 → P (addressToByteUp f n) ≤ 8589934623
 aligned-small f n h = omega (arith, bytes-small f n h, P-near (addressToByteUp f n))
 
-pub found-short : (s : List ℕ) (o ch : ℕ) (f : DspFormat) → readHeader s o ≡ Read.refused 1 → DataRead.Short ≡ dataFound s o ch f
+pub found : Answers dataSays DataRead.Value DataRead.Refused
+found = record { value = λ d. refl; refused = λ n. refl }
+
+pub found-refused : (s : List ℕ) (o ch : ℕ) (f : DspFormat) {n : ℕ} → readHeader s o ≡ Read.refused n → Read.refused n ≡ dataFound s o ch f
 unfolding dataFound
-found-short s o ch f e = rw e
+found-refused s o ch f e = rw e
 
 module _ (s : List ℕ) (o : ℕ) (h : BlockHeader) (e : readHeader s o ≡ Read.value h) (long : length s < 18446744073709551616) where
   pub cues-small : 8 * h .cues ≤ length s
@@ -49,7 +54,7 @@ module _ (s : List ℕ) (o : ℕ) (h : BlockHeader) (e : readHeader s o ≡ Read
   pub first-small : o + 32 + saturated (P (8 * h .cues)) ≤ length s
   first-small = omega (arith, first-is, header-inside s o e)
 
-  module _ (ch : ℕ) (f : DspFormat) (d : DataRead) where
+  module _ (ch : ℕ) (f : DspFormat) (d : Read BlockData) where
     pub found-left : (ch ≡ 1 → ⊥) → d ≡ dataPlaced (length s) (o + 32 + saturated (P (8 * h .cues))) (addressToByteUp f (lengthIn h)) (lengthIn h) (h .left) → d ≡ dataFound s o ch f
     unfolding dataFound dataStart
     found-left n q =

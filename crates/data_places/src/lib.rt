@@ -7,7 +7,8 @@ use records::block::read_header;
 use sizes::address_to_byte_up;
 use sizes::align;
 ghost use mathlib.Core.Path.{_≡_};
-ghost use Rattle.data_places.specs.DataPlaces.{dataPlaced, dataFound};
+ghost use Rattle.layout.specs.Answers.{numberOf};
+ghost use Rattle.data_places.specs.DataPlaces.{dataSays, dataPlaced, dataFound};
 
 // A block's length and context in a channel, and where its data lies.
 pub struct BlockData {
@@ -19,7 +20,18 @@ pub struct BlockData {
 
 pub enum DataRead {
     Value(BlockData),
-    Short,
+    Refused(u32),
+}
+
+impl DataRead {
+    pub fn number(self) -> u32
+        ensures { λ n. ⌜ n ≡ numberOf (dataSays self) ⌝ }
+    {
+        match self {
+            DataRead::Value(_) => 0,
+            DataRead::Refused(n) => n,
+        }
+    }
 }
 
 fn place_data(
@@ -29,7 +41,7 @@ fn place_data(
     length: u64,
     context: FrameContext,
 ) -> DataRead
-    ensures { λ d. ⌜ d ≡ dataPlaced slot start bytes length context ⌝ }
+    ensures { λ d. ⌜ dataSays d ≡ dataPlaced slot start bytes length context ⌝ }
 {
     if inside(slot, start, bytes) {
         DataRead::Value(BlockData {
@@ -39,16 +51,17 @@ fn place_data(
             end: start + bytes,
         })
     } else {
-        DataRead::Short
+        DataRead::Refused(1)
     }
 }
 
 // The data in a channel of this format, of the block at an offset.
 pub fn find_data(s: &[u8], offset: u32, channel: usize, format: DspFormat) -> DataRead
-    ensures { λ d. ⌜ d ≡ dataFound (now (s .entry)) offset channel format ⌝ }
+    ensures { λ d. ⌜ dataSays d ≡ dataFound (now (s .entry)) offset channel format ⌝ }
 {
-    let HeaderRead::Value(header) = read_header(s, offset) else {
-        return DataRead::Short;
+    let read = read_header(s, offset);
+    let HeaderRead::Value(header) = read else {
+        return DataRead::Refused(read.number());
     };
     let bytes = address_to_byte_up(header.end_address, format);
     let length = header.end_address as u64 + 1;

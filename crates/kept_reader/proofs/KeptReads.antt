@@ -12,7 +12,7 @@ use lib.Dec.{ltb, leb, eqb}
 use borrow.Author.Tests.{eq-eqb, ne-eqb, eqb-true, eqb-false, lt-ltb, le-ltb, le-leb, lt-leb, leb-true, leb-false, ltb-true, ltb-false}
 use Rattle.layout.specs.Choice.{pick, _and_}
 use Rattle.layout.specs.Records.{u32At, field, Read, on, readChannel}
-use Rattle.layout.specs.Answers.{u32Read}
+use Rattle.layout.specs.Answers.{u32Says}
 use Rattle.layout.specs.declared.fields.U32Read.{U32Read}
 use Rattle.layout.specs.declared.Channel.{Channel}
 use Rattle.layout.proofs.Cases.{by-cases}
@@ -30,10 +30,10 @@ module _ (s : List ℕ) (at : ℕ) where
   unfolding wordAt
   word-in h = rw (le-leb (at + 4) (length s) h)
 
-  pub word-read : {q : U32Read} {n : ℕ} → q ≡ u32Read (field s (at + 4) (u32At s at)) → q ≡ U32Read.Value n → n ≡ wordAt s at
+  pub word-read : {q : U32Read} {n : ℕ} → u32Says q ≡ field s (at + 4) (u32At s at) → q ≡ U32Read.Value n → n ≡ wordAt s at
   word-read e f = let g = got u32 e f in g .is ∙ sym (word-in (g .inside))
 
-  pub word-short : {q : U32Read} → q ≡ u32Read (field s (at + 4) (u32At s at)) → q ≡ U32Read.Short → 0 ≡ wordAt s at
+  pub word-short : {q : U32Read} {n : ℕ} → u32Says q ≡ field s (at + 4) (u32At s at) → q ≡ U32Read.Refused n → 0 ≡ wordAt s at
   unfolding wordAt
   word-short e f = rw (lt-leb (at + 4) (length s) (short u32 e f .outside))
 

@@ -2,7 +2,7 @@
 use crate::fields::word;
 use header_records::channels::no_channel;
 use header_records::channels::read_channel;
-use layout::answers::ChannelAnswer;
+use layout::answers::ReadAnswer;
 use reader::HpsReader;
 use reader::LoopStart;
 ghost use mathlib.Core.Path.{_≡_};
@@ -90,12 +90,12 @@ pub fn reader_in(kept: &[u8], from: usize, to: usize) -> HpsReader
     }
     let left = read_channel(kept, 16);
     let answer = left.answer;
-    let ChannelAnswer::Value = answer else {
+    let ReadAnswer::Value = answer else {
         return no_reader();
     };
     let right = read_channel(kept, 72);
     let answer = right.answer;
-    let ChannelAnswer::Value = answer else {
+    let ReadAnswer::Value = answer else {
         return no_reader();
     };
     let l = left.channel;

@@ -110,18 +110,20 @@ module _ {A B : Type 0} {says : B → Read A} {v : A → B} {none : ℕ → B} (
   pub value-read : {q : Read A} {r : B} {x : A} → says r ≡ q → r ≡ v x → q ≡ Read.value x
   value-read {x = x} e f = sym e ∙ ap says f ∙ k .value x
 
-  -- a refusal was answered: the read is refused with the number that is handed on
+  -- a refusal was answered: the read is refused
+  pub short-read : {q : Read A} {r : B} {n : ℕ} → says r ≡ q → r ≡ none n → q ≡ Read.refused n
+  short-read {n = n} e f = sym e ∙ ap says f ∙ k .refused n
+
+  -- the same, with the number that is handed on
   pub number-read : {q : Read A} {r : B} {n m : ℕ} → says r ≡ q → r ≡ none n → m ≡ numberOf (says r) → q ≡ Read.refused m
-  number-read {n = n} e f g =
-      let h = ap says f ∙ k .refused n in
-      sym e ∙ h ∙ ap Read.refused (sym (g ∙ ap numberOf h))
+  number-read {n = n} e f g = short-read e f ∙ ap Read.refused (sym (g ∙ ap numberOf (ap says f ∙ k .refused n)))
 
   pub got : {s : List ℕ} {past : ℕ} {a x : A} {r : B} → says r ≡ field s past a → r ≡ v x → Got s past a x
   got {s} {past} {a} {x} e f = field-value s past a x (value-read e f)
 
   -- no value was answered: the field does not lie in the slot
   pub short : {s : List ℕ} {past : ℕ} {a : A} {r : B} {n : ℕ} → says r ≡ field s past a → r ≡ none n → Missed s past a n
-  short {s} {past} {a} {n = n} e f = field-refused s past a n (sym e ∙ ap says f ∙ k .refused n)
+  short {s} {past} {a} {n = n} e f = field-refused s past a n (short-read e f)
 
   -- the same, with the number that is handed on
   pub missed : {s : List ℕ} {past : ℕ} {a : A} {r : B} {n m : ℕ} → says r ≡ field s past a → r ≡ none n → m ≡ numberOf (says r) → Missed s past a m

@@ -103,14 +103,16 @@ fn wide(b: u8) -> u16
 }
 
 // The field at an offset that is known to lie in the slot.
-pub fn be16(s: &[u8], at: usize) -> u16
+fn be16(s: &[u8], at: usize) -> u16
     requires { ⌜ at + 2 ≤ length (now s) ⌝ }
     ensures { λ r. ⌜ r ≡ u16At (now (s .entry)) at ⌝ }
 {
-    wide(s[at]) * 256 + wide(s[at + 1])
+    let high = wide(s[at]);
+    let low = wide(s[at + 1]);
+    high * 256 + low
 }
 
-pub fn be32(s: &[u8], at: usize) -> u32
+fn be32(s: &[u8], at: usize) -> u32
     requires { ⌜ at + 4 ≤ length (now s) ⌝ }
     ensures { λ r. ⌜ r ≡ u32At (now (s .entry)) at ⌝ }
 {
@@ -120,7 +122,7 @@ pub fn be32(s: &[u8], at: usize) -> u32
 }
 
 // The signed number with these bits: of the upper half, the bits turned over are a number that the signed type holds.
-pub fn signed16(x: u16) -> i16
+fn signed16(x: u16) -> i16
     ensures { λ r. ⌜ r ≡ toZ w16 x ⌝ }
 {
     if x < 0x8000 {

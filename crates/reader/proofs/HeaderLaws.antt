@@ -11,13 +11,16 @@ use Rattle.layout.specs.Answers.{numberOf, headerSays}
 use Rattle.layout.specs.declared.BlockHeader.{BlockHeader}
 use Rattle.layout.specs.declared.answers.HeaderRead.{HeaderRead}
 use Rattle.layout.proofs.Cases.{by-cases}
-use Rattle.layout.proofs.FieldLaws.{field-inside, field-past, field-value, header, value-read, number-read}
+use Rattle.layout.proofs.FieldLaws.{field-inside, field-past, field-value, header, value-read, short-read, number-read}
 
 module _ (s : List ℕ) (o : ℕ) {q : HeaderRead} (e : headerSays q ≡ readHeader s o) where
   pub header-got : {h : BlockHeader} → q ≡ HeaderRead.Value h → readHeader s o ≡ Read.value h
   header-got f = value-read header e f
 
-  -- refused, with the number that is handed on
+  pub header-short : {n : ℕ} → q ≡ HeaderRead.Refused n → readHeader s o ≡ Read.refused n
+  header-short f = short-read header e f
+
+  -- the same, with the number that is handed on
   pub header-refused : {n m : ℕ} → q ≡ HeaderRead.Refused n → m ≡ numberOf (headerSays q) → readHeader s o ≡ Read.refused m
   header-refused f g = number-read header e f g
 

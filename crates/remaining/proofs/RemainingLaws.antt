@@ -39,9 +39,9 @@ module _ (s : List ℕ) (r : HpsReader) (position i sum : ℕ) (w : Summing s r 
     more : dataRemaining s r position ≡ plus sum (lengthsAt s (offsetIn r i ∷ offsetsFrom r (i + 1)))
     more = w .same ∙ ap (λ (os : List ℕ). plus sum (lengthsAt s os)) (offsets-more r i shape ok h)
 
-    pub sum-short : readHeader s (offsetIn r i) ≡ Read.refused 1 → RemainingReply.Refused 1 ≡ remainingReply (dataRemaining s r position)
+    pub sum-refused : {n : ℕ} → readHeader s (offsetIn r i) ≡ Read.refused n → RemainingReply.Refused n ≡ remainingReply (dataRemaining s r position)
     unfolding lengthsAt
-    sum-short e = rw (more) (rw e)
+    sum-refused e = rw (more) (rw e)
 
     pub sum-more : (b : BlockHeader) → readHeader s (offsetIn r i) ≡ Read.value b → b .«end_address» + 1 ≤ 4294967296 → Summing s r position (i + 1) (sum + lengthIn b)
     unfolding lengthsAt

@@ -20,8 +20,9 @@ pub fn data_remaining(s: &[u8], r: HpsReader, position: usize) -> RemainingReply
     let mut sum: u64 = 0;
     while i < r.blocks {
         let offset = r.offsets[i];
-        let HeaderRead::Value(header) = read_header(s, offset) else {
-            return RemainingReply::Refused(1);
+        let read = read_header(s, offset);
+        let HeaderRead::Value(header) = read else {
+            return RemainingReply::Refused(read.number());
         };
         sum += header.end_address as u64 + 1;
         i += 1;

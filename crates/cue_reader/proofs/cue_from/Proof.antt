@@ -3,19 +3,11 @@ use mathlib.Core.Path.{_≡_, sym, ap, _∙_}
 use borrow.Author.Needs.{needs}
 use native.Mathlib.Omega.{arith}
 use Rattle.reader.specs.declared.HpsReader.{HpsReader}
-use Rattle.reader.proofs.HeaderLaws.{header-got, header-short}
+use Rattle.reader.proofs.HeaderLaws.{header-got, header-refused}
 use Rattle.cue_reader.specs.CueAnswers.{PartsOf}
-use Rattle.cue_reader.proofs.NextCueLaws.{Stepping, stepping-none, cues-inside, all-end, all-loop, all-short, all-point, all-next}
+use Rattle.cue_reader.proofs.NextCueLaws.{Stepping, stepping-none, cues-inside, all-end, all-loop, all-refused, all-point, all-next}
 use Rattle.cue_reader.proofs.cue_from.Statement.{statement}
 use Rattle.cue_reader.proofs.cue_from.Tie as tie
-use Rattle.cue_reader.proofs.cue_from.Reads as reads
-use Rattle.cue_reader.proofs.cue_from.Lts as lts
-use Rattle.cue_starts.proofs.loop_here.Reads as loop-here-reads
-use Rattle.cue_reader.proofs.point_at.Reads as point-at-reads
-use Rattle.cue_reader.proofs.stepped.Reads as stepped-reads
-use Rattle.records.proofs.block.read_header.Reads as read-header-reads
-use Rattle.sizes.proofs.num_samples.Reads as num-samples-reads
-use Rattle.std.proofs.num.wrapping_add_u64.Reads as wrapping-add-u64-reads
 
 abbrev Inv-loop : tie.InvT-loop
 Inv-loop s offsets blocks start format c due block₀ place₀ base₀ block place base =
@@ -45,26 +37,32 @@ shared-slice-read-offset c = search needs
 read-header-requires : tie.Need-read-header-requires Inv-loop μ-loop
 read-header-requires c κs = search needs
 
-enum-known-header : tie.Need-enum-known-header Inv-loop μ-loop
-enum-known-header c = search needs
+enum-known-read : tie.Need-enum-known-read Inv-loop μ-loop
+enum-known-read c = search needs
 
 enum-told : tie.Need-enum-told Inv-loop μ-loop
 enum-told c = search needs
 
+number-requires : tie.Need-number-requires Inv-loop μ-loop
+number-requires c κs = search needs
+
 returns-2 : tie.Need-returns-2 Inv-loop μ-loop
-returns-2 c = all-short _ _ _ _ _ _ _ _ _ (c .before .before .before .before .before .before .before .loop .inv) (c .before .before .before .before .before .before .loop-test .taken) (sym (c .before .before .before .before .before .loop-here .ensures) ∙ c .before .before .before .before .if1 .left) (header-short _ _ (c .before .before .read-header .ensures) (c .enum-told .given .1))
+returns-2 c =
+    let l = c .before .before .before .before .before in
+    all-refused _ _ _ _ _ _ _ _ _ (l .before .before .before .loop .inv) (l .before .before .loop-test .taken) (sym (l .before .loop-here .ensures) ∙ l .if1 .left)
+    (header-refused _ _ (c .before .before .before .read-header .ensures) (c .before .enum-told .given .1) (c .number .ensures))
 
 cast-point-at : tie.Need-cast-point-at Inv-loop μ-loop
-cast-point-at c = omega (arith, cues-inside _ _ (c .before .before .before .before .before .before .before .before .before .before .loop .place) _ (header-got _ _ (c .before .before .before .before .before .read-header .ensures) (c .before .before .before .header .given .1)) (c .if2 .taken))
+cast-point-at c = omega (arith, cues-inside _ _ (c .before .before .before .before .before .before .before .before .before .before .loop .place) _ (header-got _ _ (c .before .before .before .before .before .read-header .ensures) (c .before .before .before .read .given .1)) (c .if2 .taken))
 
 add-point-at : tie.Need-add-point-at Inv-loop μ-loop
-add-point-at c = omega (arith, cues-inside _ _ (c .before .before .before .before .before .before .before .before .before .before .loop .place) _ (header-got _ _ (c .before .before .before .before .before .read-header .ensures) (c .before .before .before .header .given .1)) (c .if2 .taken))
+add-point-at c = omega (arith, cues-inside _ _ (c .before .before .before .before .before .before .before .before .before .before .loop .place) _ (header-got _ _ (c .before .before .before .before .before .read-header .ensures) (c .before .before .before .read .given .1)) (c .if2 .taken))
 
 mul-point-at : tie.Need-mul-point-at Inv-loop μ-loop
-mul-point-at c = omega (arith, cues-inside _ _ (c .before .before .before .before .before .before .before .before .before .before .loop .place) _ (header-got _ _ (c .before .before .before .before .before .read-header .ensures) (c .before .before .before .header .given .1)) (c .if2 .taken))
+mul-point-at c = omega (arith, cues-inside _ _ (c .before .before .before .before .before .before .before .before .before .before .loop .place) _ (header-got _ _ (c .before .before .before .before .before .read-header .ensures) (c .before .before .before .read .given .1)) (c .if2 .taken))
 
 add-point-at-2 : tie.Need-add-point-at-2 Inv-loop μ-loop
-add-point-at-2 c = omega (arith, cues-inside _ _ (c .before .before .before .before .before .before .before .before .before .before .loop .place) _ (header-got _ _ (c .before .before .before .before .before .read-header .ensures) (c .before .before .before .header .given .1)) (c .if2 .taken))
+add-point-at-2 c = omega (arith, cues-inside _ _ (c .before .before .before .before .before .before .before .before .before .before .loop .place) _ (header-got _ _ (c .before .before .before .before .before .read-header .ensures) (c .before .before .before .read .given .1)) (c .if2 .taken))
 
 point-at-requires : tie.Need-point-at-requires Inv-loop μ-loop
 point-at-requires c κs = search needs
@@ -76,7 +74,7 @@ stepped-requires-2 : tie.Need-stepped-requires-2 Inv-loop μ-loop
 stepped-requires-2 c κs = search needs
 
 returns-3 : tie.Need-returns-3 Inv-loop μ-loop
-returns-3 c = all-point _ _ _ _ _ _ _ _ _ (c .before .before .before .before .before .before .before .before .before .before .before .before .loop .inv) (c .before .before .before .before .before .before .before .before .before .before .before .loop-test .taken) (sym (c .before .before .before .before .before .before .before .before .before .before .loop-here .ensures) ∙ c .before .before .before .before .before .before .before .before .before .if1 .left) (c .before .before .before .before .before .header .given .0 .0) (header-got _ _ (c .before .before .before .before .before .before .before .read-header .ensures) (c .before .before .before .before .before .header .given .1)) (c .before .before .if2 .taken) (c .before .point-at .ensures) (c .stepped2 .ensures)
+returns-3 c = all-point _ _ _ _ _ _ _ _ _ (c .before .before .before .before .before .before .before .before .before .before .before .before .loop .inv) (c .before .before .before .before .before .before .before .before .before .before .before .loop-test .taken) (sym (c .before .before .before .before .before .before .before .before .before .before .loop-here .ensures) ∙ c .before .before .before .before .before .before .before .before .before .if1 .left) (c .before .before .before .before .before .read .given .0 .0) (header-got _ _ (c .before .before .before .before .before .before .before .read-header .ensures) (c .before .before .before .before .before .read .given .1)) (c .before .before .if2 .taken) (c .before .point-at .ensures) (c .stepped2 .ensures)
 
 add-block : tie.Need-add-block Inv-loop μ-loop
 add-block c = search needs
@@ -91,7 +89,7 @@ loop-less : tie.Need-loop-less Inv-loop μ-loop
 loop-less c = search needs
 
 loop-again : tie.Need-loop-again Inv-loop μ-loop
-loop-again c = all-next _ _ _ _ _ _ _ _ _ (c .before .before .before .before .before .before .before .before .before .before .before .before .loop .inv) (c .before .before .before .before .before .before .before .before .before .before .before .loop-test .taken) (sym (c .before .before .before .before .before .before .before .before .before .before .loop-here .ensures) ∙ c .before .before .before .before .before .before .before .before .before .if1 .left) (c .before .before .before .before .before .header .given .0 .0) (header-got _ _ (c .before .before .before .before .before .before .before .read-header .ensures) (c .before .before .before .before .before .header .given .1)) (c .before .before .if2 .left) _ (c .wrapping-add-u64 .ensures ∙ ap (λ (m : ℕ). (c .before .before .before .before .before .before .before .before .before .before .before .before .loop .base + m) % 2 ^ 64) (c .before .num-samples .ensures))
+loop-again c = all-next _ _ _ _ _ _ _ _ _ (c .before .before .before .before .before .before .before .before .before .before .before .before .loop .inv) (c .before .before .before .before .before .before .before .before .before .before .before .loop-test .taken) (sym (c .before .before .before .before .before .before .before .before .before .before .loop-here .ensures) ∙ c .before .before .before .before .before .before .before .before .before .if1 .left) (c .before .before .before .before .before .read .given .0 .0) (header-got _ _ (c .before .before .before .before .before .before .before .read-header .ensures) (c .before .before .before .before .before .read .given .1)) (c .before .before .if2 .left) _ (c .wrapping-add-u64 .ensures ∙ ap (λ (m : ℕ). (c .before .before .before .before .before .before .before .before .before .before .before .before .loop .base + m) % 2 ^ 64) (c .before .num-samples .ensures))
 
 stepped-requires-3 : tie.Need-stepped-requires-3 Inv-loop μ-loop
 stepped-requires-3 c κs = search needs
@@ -112,8 +110,9 @@ cue-from-spec =
     mul-offset
     shared-slice-read-offset
     read-header-requires
-    enum-known-header
+    enum-known-read
     enum-told
+    number-requires
     returns-2
     cast-point-at
     add-point-at

@@ -5,8 +5,7 @@ use mir.Val.{ofZ}
 use mir.ValLaws.{toZ-ofZ}
 use mathlib.Core.Path.{_≡_, sym, ap, _∙_}
 use denote.Ref.{now}
-use Rattle.layout.proofs.FieldLaws.{got, short}
-use Rattle.records.proofs.ReadLaws.{cue}
+use Rattle.layout.proofs.FieldLaws.{cue, got, number-read}
 use Rattle.cue_reader.specs.CueAnswers.{pointRead}
 use Rattle.cue_reader.proofs.NextCueLaws.{point-read}
 use borrow.Author.Needs.{needs}
@@ -16,17 +15,19 @@ use Rattle.cue_reader.proofs.point_at.Tie as tie
 read-cue-requires : tie.Need-read-cue-requires
 read-cue-requires c κs = search needs
 
-enum-known-point : tie.Need-enum-known-point
-enum-known-point c = search needs
+enum-known-read : tie.Need-enum-known-read
+enum-known-read c = search needs
 
 enum-told : tie.Need-enum-told
 enum-told c = search needs
 
+number-requires : tie.Need-number-requires
+number-requires c κs = search needs
+
 returns : tie.Need-returns
 returns c =
-    let a = c .before .before .before .before .args in
-    let m = short cue (c .before .before .read-cue .ensures) (c .enum-told .given .1) in
-    sym (ap (pointRead (a .base)) (m .is))
+    let a = c .before .before .before .before .before .args in
+    sym (ap (pointRead (a .base)) (number-read cue (c .before .before .before .read-cue .ensures) (c .before .enum-told .given .1) (c .number .ensures)))
 
 cue-start-requires : tie.Need-cue-start-requires
 cue-start-requires c κs = search needs
@@ -34,11 +35,11 @@ cue-start-requires c κs = search needs
 returns-2 : tie.Need-returns-2
 returns-2 c =
     let a = c .before .before .before .before .before .before .before .args in
-    let g = got cue (c .before .before .before .before .before .read-cue .ensures) (c .before .before .before .point .given .1) in
-    point-read (now (a .s)) (a .at) (a .base) _ (c .before .before .before .point .given .0 .0) g
-    (c .cue-start .ensures ∙ ap (λ (z : ℤ). (a .base + ofZ w64 z) % 2 ^ 64) (toZ-ofZ w32 (c .before .before .before .point .given .0 .0 .«sample_index») (search needs)))
+    let g = got cue (c .before .before .before .before .before .read-cue .ensures) (c .before .before .before .read .given .1) in
+    point-read (now (a .s)) (a .at) (a .base) _ (c .before .before .before .read .given .0 .0) g
+    (c .cue-start .ensures ∙ ap (λ (z : ℤ). (a .base + ofZ w64 z) % 2 ^ 64) (toZ-ofZ w32 (c .before .before .before .read .given .0 .0 .«sample_index») (search needs)))
 
 pub point-at-spec : {M : Type 1} → statement M
 point-at-spec =
     tie.close
-    (tie.spec read-cue-requires enum-known-point enum-told returns cue-start-requires returns-2)
+    (tie.spec read-cue-requires enum-known-read enum-told number-requires returns cue-start-requires returns-2)

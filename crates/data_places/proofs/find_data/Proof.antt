@@ -6,8 +6,8 @@ use denote.Ref.{now}
 use Rattle.layout.specs.Records.{P, lengthIn, addressToByteUp}
 use Rattle.layout.specs.Sizes.{saturated}
 use Rattle.data_places.specs.DataPlaces.{dataPlaced}
-use Rattle.reader.proofs.HeaderLaws.{header-got, header-short}
-use Rattle.data_places.proofs.DataPlaceLaws.{found-short, cues-small, first-small, aligned-bytes, aligned-small, found-left, found-right}
+use Rattle.reader.proofs.HeaderLaws.{header-got, header-refused}
+use Rattle.data_places.proofs.DataPlaceLaws.{found-refused, cues-small, first-small, aligned-bytes, aligned-small, found-left, found-right}
 use borrow.Author.Needs.{needs}
 use Rattle.data_places.proofs.find_data.Statement.{statement}
 use Rattle.data_places.proofs.find_data.Tie as tie
@@ -15,16 +15,20 @@ use Rattle.data_places.proofs.find_data.Tie as tie
 read-header-requires : tie.Need-read-header-requires
 read-header-requires c κs = search needs
 
-enum-known-header : tie.Need-enum-known-header
-enum-known-header c = search needs
+enum-known-read : tie.Need-enum-known-read
+enum-known-read c = search needs
 
 enum-told : tie.Need-enum-told
 enum-told c = search needs
 
+number-requires : tie.Need-number-requires
+number-requires c κs = search needs
+
 returns : tie.Need-returns
 returns c =
-    let a = c .before .before .before .before .args in
-    found-short (now (a .s)) (a .offset) (a .channel) (a .format) (header-short _ _ (c .before .before .read-header .ensures) (c .enum-told .given .1))
+    let a = c .before .before .before .before .before .args in
+    found-refused (now (a .s)) (a .offset) (a .channel) (a .format)
+    (header-refused _ _ (c .before .before .before .read-header .ensures) (c .before .enum-told .given .1) (c .number .ensures))
 
 address-to-byte-up-requires : tie.Need-address-to-byte-up-requires
 address-to-byte-up-requires c κs = search needs
@@ -41,8 +45,8 @@ add-first c = search needs
 mul-align : tie.Need-mul-align
 mul-align c =
     let a = c .before .before .before .before .before .before .before .before .args in
-    let h = c .before .before .before .before .header .given .0 .0 in
-    let e = header-got (now (a .s)) (a .offset) (c .before .before .before .before .before .before .read-header .ensures) (c .before .before .before .before .header .given .1) in
+    let h = c .before .before .before .before .read .given .0 .0 in
+    let e = header-got (now (a .s)) (a .offset) (c .before .before .before .before .before .before .read-header .ensures) (c .before .before .before .before .read .given .1) in
     omega (arith, cues-small (now (a .s)) (a .offset) h e (omega arith))
 
 align-requires : tie.Need-align-requires
@@ -51,8 +55,8 @@ align-requires c κs = search needs
 add-first-2 : tie.Need-add-first-2
 add-first-2 c =
     let a = c .before .before .before .before .before .before .before .before .before .args in
-    let h = c .before .before .before .before .before .header .given .0 .0 in
-    let e = header-got (now (a .s)) (a .offset) (c .before .before .before .before .before .before .before .read-header .ensures) (c .before .before .before .before .before .header .given .1) in
+    let h = c .before .before .before .before .before .read .given .0 .0 in
+    let e = header-got (now (a .s)) (a .offset) (c .before .before .before .before .before .before .before .read-header .ensures) (c .before .before .before .before .before .read .given .1) in
     omega (arith, c .align .ensures, first-small (now (a .s)) (a .offset) h e (omega arith))
 
 align-requires-2 : tie.Need-align-requires-2
@@ -61,8 +65,8 @@ align-requires-2 c κs = search needs
 add-place-data : tie.Need-add-place-data
 add-place-data c =
     let a = c .before .before .before .before .before .before .before .before .before .before .before .before .args in
-    let h = c .before .before .before .before .before .before .before .before .header .given .0 .0 in
-    let e = header-got (now (a .s)) (a .offset) (c .before .before .before .before .before .before .before .before .before .before .read-header .ensures) (c .before .before .before .before .before .before .before .before .header .given .1) in
+    let h = c .before .before .before .before .before .before .before .before .read .given .0 .0 in
+    let e = header-got (now (a .s)) (a .offset) (c .before .before .before .before .before .before .before .before .before .before .read-header .ensures) (c .before .before .before .before .before .before .before .before .read .given .1) in
     let n : c .align2 .result ≡ saturated (P (addressToByteUp (a .format) (lengthIn h))) = c .align2 .ensures ∙ ap (λ (m : ℕ). saturated (P m)) (c .before .before .before .before .before .before .address-to-byte-up .ensures) in
     omega (arith, n, c .before .before .before .align .ensures, first-small (now (a .s)) (a .offset) h e (omega arith), aligned-bytes (a .format) (lengthIn h) (omega arith), aligned-small (a .format) (lengthIn h) (omega arith))
 
@@ -75,8 +79,8 @@ place-data-requires-2 c κs = search needs
 returns-2 : tie.Need-returns-2
 returns-2 c =
     let a = c .before .before .before .before .before .before .before .before .before .before .before .before .before .args in
-    let h = c .before .before .before .before .before .before .before .before .before .header .given .0 .0 in
-    let e = header-got (now (a .s)) (a .offset) (c .before .before .before .before .before .before .before .before .before .before .before .read-header .ensures) (c .before .before .before .before .before .before .before .before .before .header .given .1) in
+    let h = c .before .before .before .before .before .before .before .before .before .read .given .0 .0 in
+    let e = header-got (now (a .s)) (a .offset) (c .before .before .before .before .before .before .before .before .before .before .before .read-header .ensures) (c .before .before .before .before .before .before .before .before .before .read .given .1) in
     let n : c .before .before .before .before .before .before .before .address-to-byte-up .result ≡ addressToByteUp (a .format) (lengthIn h) = c .before .before .before .before .before .before .before .address-to-byte-up .ensures in
     let b : c .before .align2 .result ≡ saturated (P (addressToByteUp (a .format) (lengthIn h))) = c .before .align2 .ensures ∙ ap (λ (m : ℕ). saturated (P m)) n in
     let q = c .place-data .ensures in
@@ -86,8 +90,8 @@ returns-2 c =
 returns-3 : tie.Need-returns-3
 returns-3 c =
     let a = c .before .before .before .before .before .before .before .before .before .before .before .before .args in
-    let h = c .before .before .before .before .before .before .before .before .header .given .0 .0 in
-    let e = header-got (now (a .s)) (a .offset) (c .before .before .before .before .before .before .before .before .before .before .read-header .ensures) (c .before .before .before .before .before .before .before .before .header .given .1) in
+    let h = c .before .before .before .before .before .before .before .before .read .given .0 .0 in
+    let e = header-got (now (a .s)) (a .offset) (c .before .before .before .before .before .before .before .before .before .before .read-header .ensures) (c .before .before .before .before .before .before .before .before .read .given .1) in
     let n : c .before .before .before .before .before .before .address-to-byte-up .result ≡ addressToByteUp (a .format) (lengthIn h) = c .before .before .before .before .before .before .address-to-byte-up .ensures in
     let q = c .place-data2 .ensures in
     found-left (now (a .s)) (a .offset) h e (omega arith) (a .channel) (a .format) _ (c .before .before .if1 .left)
@@ -98,8 +102,9 @@ find-data-spec =
     tie.close
     (tie.spec
     read-header-requires
-    enum-known-header
+    enum-known-read
     enum-told
+    number-requires
     returns
     address-to-byte-up-requires
     cast-length

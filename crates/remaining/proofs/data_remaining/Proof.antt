@@ -2,9 +2,9 @@ use Prim.Native.Nat.{_-_}
 use native.Mathlib.Omega.{arith}
 use borrow.Author.Needs.{needs}
 use denote.Ref.{now}
-use Rattle.reader.proofs.HeaderLaws.{header-got, header-short}
+use Rattle.reader.proofs.HeaderLaws.{header-got, header-refused}
 use Rattle.reader.proofs.RecordLaws.{shaped}
-use Rattle.remaining.proofs.RemainingLaws.{Summing, summing-none, summed, sum-short, sum-more}
+use Rattle.remaining.proofs.RemainingLaws.{Summing, summing-none, summed, sum-refused, sum-more}
 use Rattle.remaining.proofs.data_remaining.Statement.{statement}
 use Rattle.remaining.proofs.data_remaining.Tie as tie
 
@@ -26,17 +26,22 @@ element-copy-out-offset c = search needs
 read-header-requires : tie.Need-read-header-requires Inv-loop μ-loop
 read-header-requires c κs = search needs
 
-enum-known-header : tie.Need-enum-known-header Inv-loop μ-loop
-enum-known-header c = search needs
+enum-known-read : tie.Need-enum-known-read Inv-loop μ-loop
+enum-known-read c = search needs
 
 enum-told : tie.Need-enum-told Inv-loop μ-loop
 enum-told c = search needs
 
+number-requires : tie.Need-number-requires Inv-loop μ-loop
+number-requires c κs = search needs
+
 returns : tie.Need-returns Inv-loop μ-loop
 returns c =
-    let a = c .before .before .before .before .before .before .before .args in
-    let w = c .before .before .before .before .before .loop in
-    sum-short (now (a .s)) (a .t2) (a .position) (w .i) (w .sum) (w .inv) (shaped (a .t2) _ (c .before .before .before .before .before .before .before .good .1 .0)) (c .before .before .before .before .before .before .before .pre) (c .before .before .before .before .loop-test .taken) (header-short _ _ (c .before .before .read-header .ensures) (c .enum-told .given .1))
+    let w = c .before .before .before .before .before .before .loop in
+    let z = c .before .before .before .before .before .before .before .before in
+    let a = z .args in
+    sum-refused (now (a .s)) (a .t2) (a .position) (w .i) (w .sum) (w .inv) (shaped (a .t2) _ (z .good .1 .0)) (z .pre) (c .before .before .before .before .before .loop-test .taken)
+    (header-refused _ _ (c .before .before .before .read-header .ensures) (c .before .enum-told .given .1) (c .number .ensures))
 
 cast-sum : tie.Need-cast-sum Inv-loop μ-loop
 cast-sum c = search needs
@@ -57,8 +62,8 @@ loop-again : tie.Need-loop-again Inv-loop μ-loop
 loop-again c =
     let a = c .before .before .before .before .before .before .before .before .before .args in
     let w = c .before .before .before .before .before .before .before .loop in
-    sum-more (now (a .s)) (a .t2) (a .position) (w .i) (w .sum) (w .inv) (shaped (a .t2) _ (c .before .before .before .before .before .before .before .before .before .good .1 .0)) (c .before .before .before .before .before .before .before .before .before .pre) (c .before .before .before .before .before .before .loop-test .taken) (c .before .before .header .given .0 .0)
-    (header-got _ _ (c .before .before .before .before .read-header .ensures) (c .before .before .header .given .1)) (omega arith)
+    sum-more (now (a .s)) (a .t2) (a .position) (w .i) (w .sum) (w .inv) (shaped (a .t2) _ (c .before .before .before .before .before .before .before .before .before .good .1 .0)) (c .before .before .before .before .before .before .before .before .before .pre) (c .before .before .before .before .before .before .loop-test .taken) (c .before .before .read .given .0 .0)
+    (header-got _ _ (c .before .before .before .before .read-header .ensures) (c .before .before .read .given .1)) (omega arith)
 
 returns-2 : tie.Need-returns-2 Inv-loop μ-loop
 returns-2 c =
@@ -76,8 +81,9 @@ data-remaining-spec =
     mul-offset
     element-copy-out-offset
     read-header-requires
-    enum-known-header
+    enum-known-read
     enum-told
+    number-requires
     returns
     cast-sum
     add-sum

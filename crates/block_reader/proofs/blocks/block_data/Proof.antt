@@ -3,6 +3,8 @@ use native.Mathlib.Omega.{arith}
 use denote.Ref.{now}
 use Rattle.layout.specs.declared.Channel.{Channel}
 use Rattle.reader.proofs.PartsLaws.{no-channel, past-last}
+use Rattle.layout.proofs.FieldLaws.{value-read, short-read}
+use Rattle.data_places.proofs.DataPlaceLaws.{found}
 use Rattle.block_reader.proofs.BlockLaws.{Given, not-given, given, data-given, no-part}
 use borrow.Author.Needs.{needs}
 use Rattle.block_reader.proofs.blocks.block_data.Statement.{statement}
@@ -49,14 +51,14 @@ returns-3 : tie.Need-returns-3
 returns-3 c =
     let a = c .before .before .before .before .before .before .before .before .before .before .args in
     no-part (a .s .ptr)
-    (not-given (now (a .s)) (a .t2) (a .channel) (a .position) (c .before .before .before .before .before .before .before .before .if1 .left) (c .before .before .before .before .before .before .before .if2 .left) _ (sym (ap (λ (x : Channel). x .format) (c .before .before .before .before .channel-of .ensures))) (sym (c .before .enum-told .given .1) ∙ c .before .before .before .find-data .ensures))
+    (not-given (now (a .s)) (a .t2) (a .channel) (a .position) (c .before .before .before .before .before .before .before .before .if1 .left) (c .before .before .before .before .before .before .before .if2 .left) _ (sym (ap (λ (x : Channel). x .format) (c .before .before .before .before .channel-of .ensures))) (short-read found (c .before .before .before .find-data .ensures) (c .before .enum-told .given .1)))
     refl refl
 
 -- what is known of the data that was found
 at-found : (c : tie.After-known-told) → (let a = c .before .before .before .before .before .before .before .before .before .before .args in Given (now (a .s)) (a .t2) (a .channel) (a .position) (c .before .found .given .0 .0))
 at-found c =
     let a = c .before .before .before .before .before .before .before .before .before .before .args in
-    given (now (a .s)) (a .t2) (a .channel) (a .position) (c .before .before .before .before .before .before .before .before .if1 .left) (c .before .before .before .before .before .before .before .if2 .left) _ (sym (ap (λ (x : Channel). x .format) (c .before .before .before .before .channel-of .ensures))) _ (sym (c .before .found .given .1) ∙ c .before .before .before .find-data .ensures)
+    given (now (a .s)) (a .t2) (a .channel) (a .position) (c .before .before .before .before .before .before .before .before .if1 .left) (c .before .before .before .before .before .before .before .if2 .left) _ (sym (ap (λ (x : Channel). x .format) (c .before .before .before .before .channel-of .ensures))) _ (value-read found (c .before .before .before .find-data .ensures) (c .before .found .given .1))
 
 sub-result : tie.Need-sub-result
 sub-result c = omega (arith, at-found c .order)

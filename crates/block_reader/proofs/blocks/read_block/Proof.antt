@@ -3,6 +3,8 @@ use denote.Ref.{now}
 use Rattle.layout.specs.declared.Channel.{Channel}
 use Rattle.block_reader.specs.BlockAnswers.{blockCall}
 use Rattle.reader.proofs.PartsLaws.{no-channel, past-last}
+use Rattle.layout.proofs.FieldLaws.{value-read, number-read}
+use Rattle.data_places.proofs.DataPlaceLaws.{found}
 use Rattle.block_reader.proofs.BlockLaws.{not-given, given, call-given}
 use borrow.Author.Needs.{needs}
 use Rattle.block_reader.proofs.blocks.read_block.Statement.{statement}
@@ -37,11 +39,14 @@ channel-of-requires c κs = search needs
 find-data-requires : tie.Need-find-data-requires
 find-data-requires c κs = search needs
 
-enum-known-found : tie.Need-enum-known-found
-enum-known-found c = search needs
+enum-known-read : tie.Need-enum-known-read
+enum-known-read c = search needs
 
 enum-told : tie.Need-enum-told
 enum-told c = search needs
+
+number-requires : tie.Need-number-requires
+number-requires c κs = search needs
 
 add-no-block : tie.Need-add-no-block
 add-no-block c = search needs
@@ -51,19 +56,23 @@ no-block-requires-3 c κs = search needs
 
 returns-3 : tie.Need-returns-3
 returns-3 c =
-    let a = c .before .before .before .before .before .before .before .before .before .before .args in
+    let f = c .before .before .before .before in
+    let a = f .before .before .before .before .before .before .before .args in
     c .no-block3 .ensures
     ∙ sym (ap (blockCall (a .position))
-    (not-given (now (a .s)) (a .t2) (a .channel) (a .position) (c .before .before .before .before .before .before .before .before .if1 .left) (c .before .before .before .before .before .before .before .if2 .left) _ (sym (ap (λ (x : Channel). x .format) (c .before .before .before .before .channel-of .ensures))) (sym (c .before .enum-told .given .1) ∙ c .before .before .before .find-data .ensures)))
+    (not-given (now (a .s)) (a .t2) (a .channel) (a .position) (f .before .before .before .before .before .if1 .left) (f .before .before .before .before .if2 .left) _
+    (sym (ap (λ (x : Channel). x .format) (f .before .channel-of .ensures)))
+    (number-read found (f .find-data .ensures) (c .before .before .enum-told .given .1) (c .before .number .ensures))))
 
-add-t13 : tie.Need-add-t13
-add-t13 c = search needs
+add-t14 : tie.Need-add-t14
+add-t14 c = search needs
 
 returns-4 : tie.Need-returns-4
 returns-4 c =
     let a = c .before .before .before .before .before .before .before .before .before .before .before .before .args in
-    call-given (now (a .s)) (a .t2) (a .channel) (a .position) (c .before .before .before .found .given .0 .0)
-    (given (now (a .s)) (a .t2) (a .channel) (a .position) (c .before .before .before .before .before .before .before .before .before .before .if1 .left) (c .before .before .before .before .before .before .before .before .before .if2 .left) _ (sym (ap (λ (x : Channel). x .format) (c .before .before .before .before .before .before .channel-of .ensures))) _ (sym (c .before .before .before .found .given .1) ∙ c .before .before .before .before .before .find-data .ensures))
+    call-given (now (a .s)) (a .t2) (a .channel) (a .position) (c .before .before .before .read .given .0 .0)
+    (given (now (a .s)) (a .t2) (a .channel) (a .position) (c .before .before .before .before .before .before .before .before .before .before .if1 .left) (c .before .before .before .before .before .before .before .before .before .if2 .left) _ (sym (ap (λ (x : Channel). x .format) (c .before .before .before .before .before .before .channel-of .ensures))) _
+    (value-read found (c .before .before .before .before .before .find-data .ensures) (c .before .before .before .read .given .1)))
     _ (sym (c .before .before .before .before .before .before .channel-of .ensures))
 
 pub read-block-spec : {M : Type 1} → statement M
@@ -78,10 +87,11 @@ read-block-spec =
     element-copy-out-offset
     channel-of-requires
     find-data-requires
-    enum-known-found
+    enum-known-read
     enum-told
+    number-requires
     add-no-block
     no-block-requires-3
     returns-3
-    add-t13
+    add-t14
     returns-4)

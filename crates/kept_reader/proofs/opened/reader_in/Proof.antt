@@ -1,19 +1,10 @@
 use mathlib.Core.Path.{refl, _∙_}
-use mathlib.Core.Logic.{⊎-elim}
 use native.Mathlib.Omega.{arith}
-use Rattle.opening.proofs.OpenLaws.{channel-read, channel-refused}
+use Rattle.layout.proofs.FieldLaws.{beside-read, beside-number}
 use Rattle.kept_reader.proofs.KeptReads.{and-readable, too-few, many-channels, many-blocks, no-left, no-right, part-made}
 use borrow.Author.Needs.{needs}
 use Rattle.kept_reader.proofs.opened.reader_in.Statement.{statement}
 use Rattle.kept_reader.proofs.opened.reader_in.Tie as tie
-use Rattle.kept_reader.proofs.opened.reader_in.Reads as reads
-use Rattle.kept_reader.proofs.opened.reader_in.Lts as lts
-use Rattle.kept_reader.proofs.fields.word.Reads as word-reads
-use Rattle.kept_reader.proofs.opened.least.Reads as least-reads
-use Rattle.kept_reader.proofs.opened.loop_of.Reads as loop-of-reads
-use Rattle.kept_reader.proofs.opened.no_reader.Reads as no-reader-reads
-use Rattle.kept_reader.proofs.opened.offsets_in.Reads as offsets-in-reads
-use Rattle.header_records.proofs.channels.read_channel.Reads as read-channel-reads
 
 no-reader-requires : tie.Need-no-reader-requires
 no-reader-requires c κs = search needs
@@ -51,28 +42,34 @@ read-channel-requires c κs = search needs
 enum-told : tie.Need-enum-told
 enum-told c = search needs
 
+enum-told-2 : tie.Need-enum-told-2
+enum-told-2 c = search needs
+
 no-reader-requires-4 : tie.Need-no-reader-requires-4
 no-reader-requires-4 c κs = search needs
 
 returns-4 : tie.Need-returns-4
 returns-4 c =
-    let e = channel-refused _ 16 (c .before .before .read-channel .ensures) (λ e. let k = rw e at (c .before .match .keys2) in ⊎-elim (λ z. omega arith) (λ z. omega arith) k) in
+    let e = beside-number _ (c .before .before .before .read-channel .ensures .0) (c .before .enum-told2 .given .1) refl in
     and-readable _ _ _ _ (c .no-reader4 .ensures ∙ search (no-left, needs))
 
 read-channel-requires-2 : tie.Need-read-channel-requires-2
 read-channel-requires-2 c κs = search needs
 
-enum-told-2 : tie.Need-enum-told-2
-enum-told-2 c = search needs
+enum-told-3 : tie.Need-enum-told-3
+enum-told-3 c = search needs
+
+enum-told-4 : tie.Need-enum-told-4
+enum-told-4 c = search needs
 
 no-reader-requires-5 : tie.Need-no-reader-requires-5
 no-reader-requires-5 c κs = search needs
 
 returns-5 : tie.Need-returns-5
 returns-5 c =
-    let r = c .before .before in
-    let e = channel-refused _ 72 (r .read-channel2 .ensures) (λ e. let k = rw e at (c .before .match2 .keys2) in ⊎-elim (λ z. omega arith) (λ z. omega arith) k) in
-    let l = channel-read _ 16 (r .before .before .before .read-channel .ensures) (r .before .enum-told .given .1) in
+    let r = c .before .before .before in
+    let e = beside-number _ (r .read-channel2 .ensures .0) (c .before .enum-told4 .given .1) refl in
+    let l = beside-read _ (r .before .before .before .read-channel .ensures .0) (r .before .enum-told .given .1) in
     and-readable _ _ _ _ (c .no-reader5 .ensures ∙ search (no-right, needs))
 
 least-requires : tie.Need-least-requires
@@ -93,9 +90,9 @@ word-requires-4 c κs = search needs
 returns-6 : tie.Need-returns-6
 returns-6 c =
     let x = c .before .before .before .before .before .before in
-    let r = channel-read _ 72 (x .before .before .before .read-channel2 .ensures) (x .before .enum-told2 .given .1) in
+    let r = beside-read _ (x .before .before .before .read-channel2 .ensures .0) (x .before .enum-told3 .given .1) in
     let y = x .before .before .before in
-    let l = channel-read _ 16 (y .before .before .before .read-channel .ensures) (y .before .enum-told .given .1) in
+    let l = beside-read _ (y .before .before .before .read-channel .ensures .0) (y .before .enum-told .given .1) in
     let w = y .before .before .before in
     and-readable _ _ _ _
     (part-made _ _ _ (w .before .before .before .before .before .if1 .left) (w .before .before .before .before .word .ensures) (w .before .before .if2 .left) (w .before .before .before .word2 .ensures) (w .before .if3 .left) l r (c .word4 .ensures) refl refl refl
@@ -117,10 +114,12 @@ reader-in-spec =
     returns-3
     read-channel-requires
     enum-told
+    enum-told-2
     no-reader-requires-4
     returns-4
     read-channel-requires-2
-    enum-told-2
+    enum-told-3
+    enum-told-4
     no-reader-requires-5
     returns-5
     least-requires

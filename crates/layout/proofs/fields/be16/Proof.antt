@@ -11,9 +11,6 @@ shared-slice-read-wide c = search needs
 wide-requires : tie.Need-wide-requires
 wide-requires c κs = search needs
 
-mul-result : tie.Need-mul-result
-mul-result c = omega (arith, c .before .shared-slice-known2 .given (c .before .before .before .args .at))
-
 add-wide : tie.Need-add-wide
 add-wide c = search needs
 
@@ -23,8 +20,15 @@ shared-slice-read-wide-2 c = search needs
 wide-requires-2 : tie.Need-wide-requires-2
 wide-requires-2 c κs = search needs
 
+mul-result : tie.Need-mul-result
+mul-result c =
+    let at = c .before .before .before .before .before .args .at in
+    omega (arith, c .before .shared-slice-known3 .given (at + 1), c .before .before .before .shared-slice-known2 .given at)
+
 add-result : tie.Need-add-result
-add-result c = let at = c .before .before .before .before .before .args .at in omega (arith, c .before .shared-slice-known3 .given (at + 1), c .before .before .before .shared-slice-known2 .given at)
+add-result c =
+    let at = c .before .before .before .before .before .args .at in
+    omega (arith, c .before .shared-slice-known3 .given (at + 1), c .before .before .before .shared-slice-known2 .given at)
 
 returns : tie.Need-returns
 unfolding u16At
@@ -36,9 +40,9 @@ be16-spec =
     (tie.spec
     shared-slice-read-wide
     wide-requires
-    mul-result
     add-wide
     shared-slice-read-wide-2
     wide-requires-2
+    mul-result
     add-result
     returns)

@@ -43,7 +43,7 @@ returns c =
     let z = c .before .before .before .before .before .before .before in
     let a = z .args in
     line-done (now (a .s)) (a .t2) (Stage.Blocks (a .i)) (now (a .out)) (a .at) _ (c .no-line .ensures)
-    (block-short (now (a .s)) (a .t2) (shaped (a .t2) _ (z .good .1 .0) .offsets) (z .pre .0 .blocks) (a .i) (z .pre .1) 1 (header-short _ _ (c .before .before .before .read-header .ensures) (c .before .enum-told .given .1)))
+    (block-short (now (a .s)) (a .t2) (shaped (a .t2) _ (z .good .1 .0) .offsets) (z .pre .0 .blocks) (a .i) (z .pre .1) _ (header-short _ _ (c .before .before .before .read-header .ensures) (c .before .enum-told .given .1)))
 
 inside-requires : tie.Need-inside-requires
 inside-requires c κs = search needs

@@ -32,13 +32,13 @@ use Rattle.power_cut.proofs.Whole.{kept0, writes-is}
 -- ---- The header's writes, after others that leave the first bytes alone
 
 -- The header's first write is under way, and has left these bytes and seven zeros.
-abbrev torn-to : (s : List ℕ) (vs : List Write) (first : List ℕ) → List ℕ
-torn-to s vs first = put (carriedAll s vs) 0 (first ++ replicate 7 0)
+abbrev torn-to : (s : List ℕ) (vs : List Write) (eight : List ℕ) → List ℕ
+torn-to s vs eight = put (carriedAll s vs) 0 (eight ++ replicate 7 0)
 
-torn-starts : (s : List ℕ) (vs : List Write) (first : List ℕ) → length first ≡ 8 → take 8 (torn-to s vs first) ≡ first
-torn-starts s vs first l =
-    let g : List ℕ = first ++ replicate 7 0 in
-    take-append-le 8 g (drop (0 + length g) (carriedAll s vs)) (omega (arith, length-append first (replicate 7 0))) ∙ take-at first (replicate 7 0) 8 l
+torn-starts : (s : List ℕ) (vs : List Write) (eight : List ℕ) → length eight ≡ 8 → take 8 (torn-to s vs eight) ≡ eight
+torn-starts s vs eight l =
+    let g : List ℕ = eight ++ replicate 7 0 in
+    take-append-le 8 g (drop (0 + length g) (carriedAll s vs)) (omega (arith, length-append eight (replicate 7 0))) ∙ take-at eight (replicate 7 0) 8 l
 
 module _ (h : List ℕ) (lh : length h ≡ 128) where
   -- the first has taken: a cut of the other two
@@ -63,10 +63,10 @@ module _ (h : List ℕ) (lh : length h ≡ 128) where
     header-taken wide (beyond m e l) q = header-cut (omega (arith, away-cut refl away (cut-all s vs) .long)) l (omega arith)
 
   -- the first is under way
-  torn-cut : (s : List ℕ) (vs : List Write) (first : List ℕ) → Bytes first → length first ≡ 8 → CutLeaves s (vs ++ headerWrites h) (length vs) (torn-to s vs first)
-  torn-cut s vs first b l =
-      let n = length-append first (replicate 7 0) in
-      cut-join vs (torn (first ++ replicate 7 0) (bytes-append first (replicate 7 0) b (bytes-zeros 7)) (omega (arith, length-take 15 h)) (λ e. omega arith))
+  torn-cut : (s : List ℕ) (vs : List Write) (eight : List ℕ) → Bytes eight → length eight ≡ 8 → CutLeaves s (vs ++ headerWrites h) (length vs) (torn-to s vs eight)
+  torn-cut s vs eight b l =
+      let n = length-append eight (replicate 7 0) in
+      cut-join vs (torn (eight ++ replicate 7 0) (bytes-append eight (replicate 7 0) b (bytes-zeros 7)) (omega (arith, length-take 15 h)) (λ e. omega arith))
 
 -- ---- The run
 
@@ -145,12 +145,12 @@ module _ (earlier : List ℕ) (b : Book) (cs : List Call) (typed : All Typed cs)
           finishing = λ q z u. answer (omega (arith, done-length q, some)) (inr u) ∙ ap refusalBy (after q (omega (arith, done-length q)));
         }
 
-  cut-to : d .finished ≡ true → (first : List ℕ) → Bytes first → length first ≡ 8 → CutTo earlier ws first
-  cut-to q first y l =
+  cut-to : d .finished ≡ true → (eight : List ℕ) → Bytes eight → length eight ≡ 8 → CutTo earlier ws eight
+  cut-to q eight y l =
       let e = done-length q in
-      let t = torn-to earlier vs first in
-      let c : CutLeaves earlier ws (length vs) t = rw (done-writes q) (torn-cut (fileHeader d) header-long earlier vs first y l) in
-      let f : take 8 t ≡ first = torn-starts earlier vs first l in
+      let t = torn-to earlier vs eight in
+      let c : CutLeaves earlier ws (length vs) t = rw (done-writes q) (torn-cut (fileHeader d) header-long earlier vs eight y l) in
+      let f : take 8 t ≡ eight = torn-starts earlier vs eight l in
       record { taken = length vs; slot = t; under = omega arith; cut = c; starts = f; opening = answer (length vs) t c some (inr (omega arith)) ∙ ap refusalBy f }
 
   refusals : Refusals earlier d ws

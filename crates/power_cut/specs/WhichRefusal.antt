@@ -18,12 +18,12 @@ use Rattle.power_cut.specs.LoadingBook.{Book, begun, bookRun}
 use Rattle.power_cut.specs.FinishedFile.{fileHeader}
 use Rattle.power_cut.specs.PowerCut.{begin, opens, allWrites}
 
--- "2 first 8 bytes wrong; 3 channel count not 1 or 2": 2 exactly where these first eight bytes are not the magic, else 3
-abbrev pub refusalBy : (first : List ℕ) → Opened
-refusalBy first = pick (same first magic) (refused 3) (refused 2)
+-- "2 first 8 bytes wrong; 3 channel count not 1 or 2": 2 exactly where these eight bytes, the slot's first, are not the magic, else 3
+abbrev pub refusalBy : (eight : List ℕ) → Opened
+refusalBy eight = pick (same eight magic) (refused 3) (refused 2)
 
--- What opening gives at a cut of which this many writes have taken. Of a finished list finish's three writes are the last (`last` below), so that its
--- first one has not been reached with taken + 3 < length ws, may be under way with taken + 3 ≡ length ws, and has taken with length ws < taken + 3.
+-- What opening gives at a cut of which this many writes have taken. Of a finished list finish's three writes are the last (`last` below): its first one
+-- is ahead where taken + 3 < length ws, under way where taken + 3 ≡ length ws, and has taken where length ws < taken + 3.
 pub record RefusalAt (earlier : List ℕ) (b : Book) (ws : List Write) (taken : ℕ) (slot : List ℕ) : Type 0 where
   -- once begin's write has taken and until finish's last has, the first eight bytes tell which
   pub answer : 0 < taken → (b .finished ≡ false) ⊎ (taken < length ws) → opens slot ≡ refusalBy (take 8 slot)
@@ -36,14 +36,14 @@ pub record RefusalAt (earlier : List ℕ) (b : Book) (ws : List Write) (taken : 
   -- and 3 after it
   pub finishing : b .finished ≡ true → length ws < taken + 3 → taken < length ws → opens slot ≡ refused 3
 
--- A cut with finish's first write under way that leaves these first eight bytes, and what opening then gives.
-pub record CutTo (earlier : List ℕ) (ws : List Write) (first : List ℕ) : Type 0 where
+-- A cut with finish's first write under way that leaves these as the slot's first eight bytes, and what opening then gives.
+pub record CutTo (earlier : List ℕ) (ws : List Write) (eight : List ℕ) : Type 0 where
   pub taken : ℕ
   pub slot : List ℕ
   pub under : taken + 3 ≡ length ws
   pub cut : CutLeaves earlier ws taken slot
-  pub starts : take 8 slot ≡ first
-  pub opening : opens slot ≡ refusalBy first
+  pub starts : take 8 slot ≡ eight
+  pub opening : opens slot ≡ refusalBy eight
 
 -- What holds of every list of calls after an accepted begin: b the book after it, ws the writes.
 pub record Refusals (earlier : List ℕ) (b : Book) (ws : List Write) : Type 0 where
@@ -52,7 +52,7 @@ pub record Refusals (earlier : List ℕ) (b : Book) (ws : List Write) : Type 0 w
   -- every cut
   pub cut : (taken : ℕ) (slot : List ℕ) → CutLeaves earlier ws taken slot → RefusalAt earlier b ws taken slot
   -- while finish's first write is under way those bytes are anything, so that both refusals occur
-  pub torn : b .finished ≡ true → (first : List ℕ) → Bytes first → length first ≡ 8 → CutTo earlier ws first
+  pub torn : b .finished ≡ true → (eight : List ℕ) → Bytes eight → length eight ≡ 8 → CutTo earlier ws eight
 
 -- The statement, with the premises of PowerCut.
 unfoldable pub WhichRefusal : Type 0

@@ -38,7 +38,7 @@ block-most =
     record {
       rate = omega arith;
       addresses = omega arith;
-      coefficients = record { sixteen = refl; each = more high (more low (all-same 14 (negsuc 32767) low)) };
+      coefficients = record { sixteen = refl; each = more high (all-same 15 (negsuc 32767) low) };
       gain = omega arith;
       context = record { scale = omega arith; last = low; oldest = high };
     }

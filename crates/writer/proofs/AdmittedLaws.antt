@@ -92,4 +92,4 @@ cuts-of-two =
 
 pub any-tear : AnyTear
 unfolding AnyTear
-any-tear s w ws g b e n = torn {w = w} g (b .each) e n
+any-tear s w ws g b e n = torn {w = w} g b e n

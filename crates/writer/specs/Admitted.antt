@@ -78,4 +78,6 @@ pub record CutsOfTwo : Type 0 where
 
 -- Whatever the slot and the write under way, of other than one byte: any bytes in its range are what some cut leaves.
 unfoldable pub AnyTear : Type 0
-AnyTear = (s : List ℕ) (w : Write) (ws : List Write) (g : List ℕ) → AnyBytes g → length g ≡ length (w .bytes) → (length g ≡ 1 → ⊥) → CutLeaves s (w ∷ ws) 0 (put s (w .offset) g)
+AnyTear =
+    (s : List ℕ) (w : Write) (ws : List Write) (g : List ℕ) → ((i : ℕ) → i < length g → getD g i 0 < 256) → length g ≡ length (w .bytes) → (length g ≡ 1 → ⊥)
+    → CutLeaves s (w ∷ ws) 0 (put s (w .offset) g)

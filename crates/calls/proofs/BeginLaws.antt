@@ -79,5 +79,5 @@ module _ (slot : ℕ) {n : ℕ} {s line : List ℕ} {st : Start} {b : BeginLine}
     loads-all next d f e =
         record {
           refused = f ∙ sym a ∙ answer-is;
-          is = λ g. e ∙ rw (made .is room, made .writer, is-begins, d, start .rest, start .buffer);
+          is = λ g. e ∙ rw (made .is (omega arith), made .writer, is-begins, d, start .rest, start .buffer);
         }

@@ -1,2 +1,3 @@
 pub mod RecordedFiles
 pub mod MarkedForTheTable
+pub mod UsedOnLists

@@ -135,7 +135,7 @@ abbrev block : Bool → Call
 block l = Call.push (mono 16 eight l) (replicate 128 9)
 
 -- "Input: mono, 32,000, Auto, Loop at 0, Point at 5, one 16-address block"
-abbrev worked : List Call
+abbrev pub worked : List Call
 worked = Call.cue (at 0 Loop 1) ∷ Call.cue (at 5 Point 2) ∷ block true ∷ Call.finish (replicate 128 9) ∷ []
 
 -- "Two 16-address blocks: Point 13 in block 0, Point 14 in block 1, Loop 20 read back at 14."; with calls that are refused in between
@@ -209,7 +209,7 @@ abbrev rightSide : (gain : ℕ) → FrameContext → List ℕ → Side
 rightSide g c bs = record { block = record { rate = 32000; length = 16; coefficients = (negsuc 32767 ∷ pos 32767 ∷ pos 256 ∷ negsuc 255 ∷ pos 1000 ∷ negsuc 999 ∷ pos 17 ∷ negsuc 16 ∷ pos 12345 ∷ negsuc 12344 ∷ pos 0 ∷ pos 1 ∷ negsuc 1 ∷ pos 300 ∷ negsuc 299 ∷ pos 255 ∷ []); gain = g; context = c }; bytes = bs }
 
 -- The calls behind the recorded stereo file.
-abbrev recorded : List Call
+abbrev pub recorded : List Call
 recorded =
     Call.cue (at 3 (Range 7) 1) ∷ Call.cue (at 20 Loop 2) ∷ Call.cue (at 1 Point 3) ∷ Call.cue (at 2 Point 4) ∷ Call.cue (at 4 Point 5) ∷ Call.cue (at 5 Point 6) ∷ Call.cue (at 6 Point 7) ∷ Call.cue (at 15 Point 8)
     ∷ Call.push (record { channels = 2; left = leftSide 258 (ctx 17 (negsuc 1) (pos 300)) (1 ∷ 18 ∷ 35 ∷ 52 ∷ 69 ∷ 86 ∷ 103 ∷ 120 ∷ []); right = rightSide 772 (ctx 33 (pos 400) (negsuc 4)) (137 ∷ 154 ∷ 171 ∷ 188 ∷ 205 ∷ 222 ∷ 239 ∷ 240 ∷ []); last = false }) (replicate 200 9)
@@ -247,7 +247,7 @@ abbrev fileWith : (count index : List ℕ) → List ℕ
 fileWith count index = (32 ∷ 72 ∷ 65 ∷ 76 ∷ 80 ∷ 83 ∷ 84 ∷ 0 ∷ 0 ∷ 0 ∷ 125 ∷ 0 ∷ []) ++ count ++ afterCount index
 
 -- The worked file.
-abbrev file : List ℕ
+abbrev pub file : List ℕ
 file = fileWith (0 ∷ 0 ∷ 0 ∷ 1 ∷ []) (0 ∷ 0 ∷ 0 ∷ 5 ∷ [])
 
 -- The same with index -1.

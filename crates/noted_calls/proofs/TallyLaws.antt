@@ -200,7 +200,7 @@ module _ (w : HpsWriter) (lent : List ℕ) {j : Noted} {kept : List ℕ} (g : Go
 -- ---- Begin
 
 module _ (slot ch : ℕ) (mode : Looping) (lent : List ℕ) {kept : List ℕ} {j : Noted} {call : Called} {l : List ℕ} (none : j ≡ noneNoted) (e : call ≡ called (beginOf slot ch mode lent)) (el : l ≡ beginOf slot ch mode lent .lent) where
-  begin-room : 65664 ≤ length kept → Room j kept l (handedOut call)
+  begin-room : 1 ≤ length kept → Room j kept l (handedOut call)
   unfolding beginOf handed
   begin-room room =
       rw (none, e, el, begin-place slot ch mode lent)
@@ -210,7 +210,7 @@ module _ (slot ch : ℕ) (mode : Looping) (lent : List ℕ) {kept : List ℕ} {j
       → Begun slot (beginOf slot ch mode lent) kept (record { writer = call .writer; reply = call .reply; noted = q }) after
   unfolding beginOf writes notedIn writesIn sizes sum handed
   begin-made {q} {after} good h =
-      let k : 65664 ≤ length kept → Notes noneNoted kept (beginOf slot ch mode lent .lent) (beginOf slot ch mode lent .places) q after = λ room. rw (none, e, el, begin-place slot ch mode lent) at (h (begin-room room)) in
+      let k : 1 ≤ length kept → Notes noneNoted kept (beginOf slot ch mode lent .lent) (beginOf slot ch mode lent .places) q after = λ room. rw (none, e, el, begin-place slot ch mode lent) at (h (begin-room room)) in
       record {
         writer = ap (λ (c : Called). c .writer) e;
         reply = ap (λ (c : Called). c .reply) e;
@@ -218,7 +218,7 @@ module _ (slot ch : ℕ) (mode : Looping) (lent : List ℕ) {kept : List ℕ} {j
         tally = λ room small a.
             by-cases (eqb (beginRefusal slot ch (length lent)) 0)
             (λ z.
-            let n = k room in
+            let n = k (omega arith) in
             let c : q .count ≡ 0 + 1 = rw z at (n .count) in
             let b : q .total ≡ 0 + (1 + 0) = rw z at (n .total) in
             rw (e, z) (record {

@@ -45,5 +45,5 @@ pub record Begun (slot : ℕ) (o : Outcome) (kept : List ℕ) (m : Made) (after 
   pub reply : m .reply ≡ replyOf (o .answer)
   pub good : Good (m .writer)
   pub tally : 65664 ≤ length kept → slot ≤ 65536 → o .answer ≡ accepted 0 → Tally (m .noted) (m .writer) after
-  pub is : 65664 ≤ length kept → notedIn (m .noted) after ≡ writes o
-  pub put : 65664 ≤ length kept → after ≡ putAt kept 0 (handed (writes o))
+  pub is : 1 ≤ length kept → notedIn (m .noted) after ≡ writes o
+  pub put : 1 ≤ length kept → after ≡ putAt kept 0 (handed (writes o))

@@ -38,7 +38,7 @@ block-most =
     record {
       rate = omega arith;
       addresses = omega arith;
-      coefficients = record { sixteen = refl; each = more high (more low (all-same 14 (negsuc 32767) low)) };
+      coefficients = record { sixteen = refl; each = more high (all-same 15 (negsuc 32767) low) };
       gain = omega arith;
       context = record { scale = omega arith; last = low; oldest = high };
     }
@@ -92,4 +92,4 @@ cuts-of-two =
 
 pub any-tear : AnyTear
 unfolding AnyTear
-any-tear s w ws g b e n = torn {w = w} g (b .each) e n
+any-tear s w ws g b e n = torn {w = w} g b e n

@@ -5,7 +5,7 @@ use mathlib.Core.Path.{_≡_}
 use mathlib.Core.Bool.{true, false}
 use mathlib.Core.List.{List, [], _∷_}
 use lib.ListN.{length, getD, replicate}
-use lib.IntN.{pos, negsuc}
+use lib.IntN.{ℤ, pos, negsuc}
 use Rattle.layout.specs.Lists.{All, put}
 use Rattle.writer.specs.WritesAndCuttingRule.{Write, write, CutLeaves}
 use Rattle.writer.specs.Loading.{Push, cue, push, finish, noBlock}
@@ -21,10 +21,14 @@ pub record AnyBytes (bs : List ℕ) : Type 0 where
   pub each : (i : ℕ) → i < length bs → getD bs i 0 < 256
   pub long : length bs < 9223372036854775808
 
--- Every field at its type's largest value; of the signed ones the least is there too.
+-- The largest i16, and the least.
+abbrev pub ends : List ℤ
+ends = pos 32767 ∷ replicate 15 (negsuc 32767)
+
+-- Every field at its type's largest value; signed ones at the least too.
 abbrev pub largest : ChannelBlock
 largest =
-    record { rate = 4294967295; length = 18446744073709551615; coefficients = pos 32767 ∷ negsuc 32767 ∷ replicate 14 (negsuc 32767); gain = 65535; context = record { «predictor_and_scale» = 65535; last = negsuc 32767; oldest = pos 32767 } }
+    record { rate = 4294967295; length = 18446744073709551615; coefficients = ends; gain = 65535; context = record { «predictor_and_scale» = 65535; last = negsuc 32767; oldest = pos 32767 } }
 
 -- A cue at the largest values.
 abbrev pub largestCue : Cue
@@ -74,4 +78,6 @@ pub record CutsOfTwo : Type 0 where
 
 -- Whatever the slot and the write under way, of other than one byte: any bytes in its range are what some cut leaves.
 unfoldable pub AnyTear : Type 0
-AnyTear = (s : List ℕ) (w : Write) (ws : List Write) (g : List ℕ) → AnyBytes g → length g ≡ length (w .bytes) → (length g ≡ 1 → ⊥) → CutLeaves s (w ∷ ws) 0 (put s (w .offset) g)
+AnyTear =
+    (s : List ℕ) (w : Write) (ws : List Write) (g : List ℕ) → ((i : ℕ) → i < length g → getD g i 0 < 256) → length g ≡ length (w .bytes) → (length g ≡ 1 → ⊥)
+    → CutLeaves s (w ∷ ws) 0 (put s (w .offset) g)

@@ -556,11 +556,16 @@ def of_rules(wanted=few):
                 yield Loading(channels, 2, cues, some_blocks(lengths), pushes, spare, "zeros", ((place, tuple(names)),))
 
 
-def listed():
-    """A full table of cues, and 512 blocks without the last mark; then each two neighbours of push's order, broken at once."""
+def full():
+    """A full table of cues, and 512 blocks without the last mark."""
     points = tuple((i // 2, i % 2 * 2, i % 2, i) for i in range(CUE_LIMIT))
     refused = (("begin", ()), ("cue", ()), ("finish", ()), *((i, (way,)) for i in range(2) for way in ("no room", "short buffer")))
     for channels in (1, 2):
         yield Loading(channels, 2, points, some_blocks((16, 100)), 2, 0, "noise", refused)
     yield Loading(1, 0, (), some_blocks([2] * 513), 512, 200, "zeros", ((512, ()), (512, ("rate",)), (512, ("count",))))
+
+
+def listed():
+    """These, and each two neighbours of push's order broken at once."""
+    yield from full()
     yield from (one for one in of_rules(neighbours) if len(one.blocks) < BLOCK_LIMIT)

@@ -140,7 +140,8 @@ class Counts(Counter):
         if one.theirs is not None:
             self[f"{one.call} given to the Rust"] += 1
             if one.theirs != due:
-                self[f"{one.call} with {due} where the Rust has {one.theirs or 'none'} ({LISTED[due, one.theirs]})"] += 1
+                theirs = f"where the Rust has {one.theirs}" if one.theirs else "that the Rust accepts"
+                self[f"{one.call} with {due} {theirs} ({LISTED[due, one.theirs]})"] += 1
         if others:
             self[f"{one.call} that breaks {min(len(others) + 1, 3)}{' or more' if len(others) > 1 else ''} rules"] += 1
         where = (one.call, one.channels, one.later) if one.call == "push" else (one.call,)

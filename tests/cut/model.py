@@ -1,4 +1,4 @@
-"""Document 01 in Python, as far as `cut` needs it: the loading calls, opening and the listing, and every moment.
+"""Document 01 in Python, as far as `cut` and the comparison with the Rust need it: the loading calls, opening and the listing, and every moment.
 
 Written from the document's sentences alone and as plainly as they go: nothing here is taken from the Rattle code.
 """

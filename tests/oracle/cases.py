@@ -127,7 +127,7 @@ def answer_at(made, number):
 # ---- Loadings
 
 class Counts(Counter):
-    """How often a thing was met; and the rules of push that were broken at once: channels, whether a block was pushed before, the number due, and one or two others."""
+    """How often a thing was met; and the pairs and triples of rules that were broken at once, the first of them being due, as orders.py tells them."""
 
     def __init__(self):
         super().__init__()
@@ -140,12 +140,13 @@ class Counts(Counter):
         if one.theirs is not None:
             self[f"{one.call} given to the Rust"] += 1
             if one.theirs != due:
-                self[f"{one.call} with {due} where the Rust has {one.theirs or 'none'} ({LISTED[due, one.theirs]})"] += 1
+                theirs = f"where the Rust has {one.theirs}" if one.theirs else "that the Rust accepts"
+                self[f"{one.call} with {due} {theirs} ({LISTED[due, one.theirs]})"] += 1
         if others:
             self[f"{one.call} that breaks {min(len(others) + 1, 3)}{' or more' if len(others) > 1 else ''} rules"] += 1
-        if one.call == "push":
-            for count in (1, 2):
-                self.together |= {(one.channels, one.later, due, *rest) for rest in itertools.combinations(others, count)}
+        where = (one.call, one.channels, one.later) if one.call == "push" else (one.call,)
+        for count in (1, 2):
+            self.together |= {(*where, due, *rest) for rest in itertools.combinations(others, count)}
 
 
 def loading_case(oracle, loading, counts):

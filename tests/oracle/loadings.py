@@ -488,11 +488,18 @@ def can_be_made(rules):
     return 24 not in rules or not {10, 13} & {*rules}
 
 
-def some_refused(channels, pushes, finished):
+def some_places(lengths, pushes, large):
+    """Where pushes are refused: of large loadings only the 513th."""
+    if large:
+        return [BLOCK_LIMIT] * (len(lengths) > BLOCK_LIMIT)
+    finished = pushes == len(lengths)
+    return [*range(min(pushes + (not finished), 6))] + ["last", "finished"] * finished
+
+
+def some_refused(channels, places):
     made = [("begin", ())] * (random.random() < 0.2) + [("cue", ())] * (random.random() < 0.3) + [("finish", ())] * (random.random() < 0.3)
-    places = [*range(min(pushes + (not finished), 6))] + ["last", "finished"] * finished
     for place in places:
-        for _ in range(random.choice((0, 0, 0, 1, 2, 3))):
+        for _ in range(random.choice((0, 0, 0, 1, 2, 3)) if place != BLOCK_LIMIT else 20):
             rules = some_rules(channels, place != 0)
             made.append((place, tuple(random.choice(ways(number, rules, channels)) for number in rules)))
     return tuple(made)
@@ -506,20 +513,29 @@ def some_loading():
     cues = some_cues(sum(samples(n) for n in lengths), many)
     pushes = min(len(lengths), BLOCK_LIMIT) if large or random.random() < 0.9 else random.randrange(len(lengths))
     spare = random.choice((0, 1, random.randrange(500), random.randrange(500)))
-    refused = () if large else some_refused(channels, pushes, pushes == len(lengths))
+    refused = some_refused(channels, some_places(lengths, pushes, large))
     earlier = "zeros" if large else random.choice(("noise", "file", "zeros"))
     return Loading(channels, mode, cues, some_blocks(lengths), pushes, spare, earlier, refused, random.randrange(1 << 32))
 
 
-# Where a push is refused: the place, the rules broken there whatever is pushed, whether a block was pushed before; the lengths, cues, pushes and spare of the loading.
+@dataclass(frozen=True)
+class Place:
+    """Where a push is refused, the rules that are broken there whatever it is given, and the loading around it."""
+    where: object  # as in Loading.refused
+    there: tuple
+    lengths: tuple
+    pushes: int
+    spare: int = 200
+    cues: tuple = ()
+
+
 POINTS = tuple((0, 0, 0, name) for name in range(5))
 PLACES = [
-    (0, (), False, (16, 40), (), 2, 200), (0, (24,), False, (16,), POINTS, 0, 0), (1, (), True, (16, 40, 17), (), 3, 200), (1, (24,), True, (16, 16), (), 1, 0),
-    (512, (25,), True, (2,) * 513, (), 512, 200), (512, (25, 24), True, (2,) * 513, (), 512, 0),
+    Place(0, (), (16, 40), 2), Place(0, (24,), (16,), 0, 0, POINTS), Place(1, (), (16, 40, 17), 3), Place(1, (24,), (16, 16), 1, 0),
+    Place(512, (25,), (2,) * 513, 512), Place(512, (25, 24), (2,) * 513, 512, 0),
+    Place("last", (26,), (16, 40), 2), Place("last", (26, 24), (16, 40), 2, 0), Place("finished", (26,), (16, 40), 2), Place("finished", (26, 24), (16, 40), 2, 0),
+    Place("last", (26, 25), (2,) * 512, 512), Place("last", (26, 25, 24), (2,) * 512, 512, 0),
 ]
-for where in ("last", "finished"):
-    PLACES += [(where, (26,), True, (16, 40), (), 2, 200), (where, (26, 24), True, (16, 40), (), 2, 0)]
-PLACES += [("last", (26, 25), True, (2,) * 512, (), 512, 200), ("last", (26, 25, 24), True, (2,) * 512, (), 512, 0)]
 
 
 def few(rules):
@@ -546,21 +562,26 @@ def of_rules(wanted=few):
     with room and without, after 512 blocks, after the last and after finish. The ways to break a rule take turns."""
     turns = Counter()
     for channels in (1, 2):
-        for place, there, later, lengths, cues, pushes, spare in PLACES:
-            for rules, chosen in rules_with(there, channels, later, wanted):
+        for place in PLACES:
+            for rules, chosen in rules_with(place.there, channels, place.where != 0, wanted):
                 names = []
                 for number in chosen:
                     can = ways(number, rules + chosen, channels)
                     names.append(can[turns[number] % len(can)])
                     turns[number] += 1
-                yield Loading(channels, 2, cues, some_blocks(lengths), pushes, spare, "zeros", ((place, tuple(names)),))
+                yield Loading(channels, 2, place.cues, some_blocks(place.lengths), place.pushes, place.spare, "zeros", ((place.where, tuple(names)),))
 
 
-def listed():
-    """A full table of cues, and 512 blocks without the last mark; then each two neighbours of push's order, broken at once."""
+def full():
+    """A full table of cues, and 512 blocks without the last mark."""
     points = tuple((i // 2, i % 2 * 2, i % 2, i) for i in range(CUE_LIMIT))
     refused = (("begin", ()), ("cue", ()), ("finish", ()), *((i, (way,)) for i in range(2) for way in ("no room", "short buffer")))
     for channels in (1, 2):
         yield Loading(channels, 2, points, some_blocks((16, 100)), 2, 0, "noise", refused)
     yield Loading(1, 0, (), some_blocks([2] * 513), 512, 200, "zeros", ((512, ()), (512, ("rate",)), (512, ("count",))))
+
+
+def listed():
+    """These, and each two neighbours of push's order broken at once."""
+    yield from full()
     yield from (one for one in of_rules(neighbours) if len(one.blocks) < BLOCK_LIMIT)

@@ -3,6 +3,7 @@
 Document 01's orders are those of tests/cut/model.py. An order has each number and whether its rule is broken; the first that is, is due. What is not in
 LISTED and differs is a disagreement, and so is an answer of the Rust that its own order does not give.
 """
+import itertools
 import os
 import sys
 
@@ -52,6 +53,14 @@ LISTED = {
 }
 
 
+# What begin, a cue and finish can break at once. A finished stream has a last block, so that 26 comes with neither 27 nor 28.
+TOGETHER = {
+    "begin": ((3, 7), (3, 14), (7, 14), (3, 7, 14)),
+    "cue": ((21, 8), (21, 20), (8, 20), (21, 8, 20)),
+    "finish": ((26, 14), (27, 28), (27, 14), (28, 14), (27, 28, 14)),
+}
+
+
 def together(numbers, channels, later):
     """Whether a push can break these rules, in push's order, so that the first of them is due; `later` if a block has been pushed before it."""
     due = numbers[0]
@@ -63,3 +72,11 @@ def together(numbers, channels, later):
         return False  # no length is both
     two = 29 not in numbers if channels == 2 else due in (26, 29)  # in mono a push of two channels is refused with 29, if not 26
     return two or not {15, 12} & {*numbers}
+
+
+def all_together():
+    """The pairs and triples that can be broken at once: the call, of push also the channel count and whether it is a later one, and the rules."""
+    made = {(call, *rules) for call, sets in TOGETHER.items() for rules in sets}
+    for channels, later, count in itertools.product((1, 2), (False, True), (2, 3)):
+        made |= {("push", channels, later, *rules) for rules in itertools.combinations(PUSH_ORDER, count) if together(rules, channels, later)}
+    return made

@@ -1,7 +1,8 @@
 """The smallest input that still shows a disagreement: parts are left out as long as it does."""
+import itertools
 from dataclasses import replace
 
-from loadings import resized
+from loadings import NUMBERS, WAYS, resized
 
 TRIES = 3000
 
@@ -48,14 +49,23 @@ def without_block(loading, i):
     return replace(loading, blocks=without(loading.blocks, i), pushes=loading.pushes - (i < loading.pushes), refused=moved)
 
 
+def simpler(names):
+    """With a rule less broken, or one of them in an earlier way."""
+    for k, name in enumerate(names):
+        if len(names) > 1:
+            yield without(names, k)
+        for way in itertools.takewhile(lambda way: way != name, WAYS[NUMBERS[name]]):
+            yield names[:k] + (way,) + names[k + 1:]
+
+
 def smaller_loadings(loading):
     """The loading with fewer refused calls, cues and blocks, shorter blocks, less around them."""
     if loading.refused:
         yield replace(loading, refused=())
     for i, (place, names) in enumerate(loading.refused):
         yield replace(loading, refused=without(loading.refused, i))
-        for k in range(len(names) if len(names) > 1 else 0):
-            yield replace(loading, refused=loading.refused[:i] + ((place, without(names, k)),) + loading.refused[i + 1:])
+        for fewer in simpler(names):
+            yield replace(loading, refused=loading.refused[:i] + ((place, fewer),) + loading.refused[i + 1:])
     if loading.cues:
         yield replace(loading, cues=())
     for i in range(len(loading.cues)):

@@ -34,7 +34,8 @@ fn is_reply(reply: EstimateReply, due: u32, length: u64) -> bool {
     }
 }
 
-// 0: the number of the refusal, or 0; 4 blocks, 8 length, 16 the other length, 24 channels, 28 p, 32 the estimate. Lengths and the estimate are u64, high half first.
+// 0: the number of the refusal, or 0; 4 blocks, 8 length, 16 the other length, 24 channels, 28 p, 32 the estimate.
+// Lengths and the estimate are u64, high half first.
 pub(crate) fn estimate_case(body: &[u8]) -> usize {
     let reply = reply(
         number(body, 4),

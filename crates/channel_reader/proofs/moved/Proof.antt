@@ -43,8 +43,8 @@ use denote.Triple.Table.{entered, cited}
 use denote.Triple.Walked.{says, needs, Stays, stay-none, walkOf, goes-none, Walks, ends-at, walked, walk-meets}
 use denote.Exit.{yes}
 use denote.Triple.Clauses.{ensured, lasts}
-use Rattle.reader.specs.OpeningAndReading.{Readable, blockRead}
-use Rattle.block_reader.specs.BlockAnswers.{blockCall}
+use Rattle.reader.specs.OpeningAndReading.{Readable}
+use Rattle.channel_reader.specs.ChannelReading.{positionAfter}
 use Rattle.channel_reader.specs.declared.ChannelReader.{ChannelReader}
 use Rattle.reader.specs.declared.HpsReader.{HpsReader}
 use Rattle.reader.proofs.HpsReader as O
@@ -89,7 +89,7 @@ module _ {M : Type 1} (𝓤 : URA M) (H : Heap 𝓤) (A : Atoms 𝓤) (W : Given
 
   -- where the position stands after the read
   abbrev after : ℕ
-  after = blockCall (d .position) (blockRead (now (d .slot)) o ch (d .position)) .position
+  after = positionAfter (now (d .slot)) o ch (d .position)
 
   -- the struct that is made
   abbrev made : ℕ → ChannelReader

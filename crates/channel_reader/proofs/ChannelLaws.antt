@@ -17,7 +17,8 @@ module _ (s : List ℕ) (r : HpsReader) (ch i : ℕ) where
   abbrev gives : BlockHeader → Read (List ℕ) → BlockAnswer
   gives h d =
       on d (λ n. BlockAnswer.refusedAt n (i + 1)) (λ bytes.
-      BlockAnswer.gave (r .rate) (channelIn r ch .format) (channelIn r ch .coefficients) (channelIn r ch .gain) (lengthIn h) (contextIn h ch) (dataStart (offsetIn r i) h ch (bytesIn r h ch)) bytes (i + 1))
+      BlockAnswer.gave (r .rate) (channelIn r ch .format) (channelIn r ch .coefficients) (channelIn r ch .gain) (lengthIn h) (contextIn h ch)
+      (dataStart (offsetIn r i) h ch (bytesIn r h ch)) bytes (i + 1))
 
   -- the same with the header
   abbrev answers : Read BlockHeader → BlockAnswer

@@ -9,6 +9,7 @@ ghost use mathlib.Core.Path.{_≡_};
 ghost use Rattle.reader.specs.OpeningAndReading.{Readable, blockRead, dataRemaining};
 ghost use Rattle.block_reader.specs.BlockAnswers.{blockCall, blockData, blockStart, bytesOn};
 ghost use Rattle.remaining.specs.RemainingAnswers.{remainingReply};
+ghost use Rattle.channel_reader.specs.ChannelReading.{positionAfter};
 
 pub struct ChannelReader<'a> {
     pub slot: &'a [u8],
@@ -41,7 +42,7 @@ pub fn data<'a>(c: ChannelReader<'a>, r: HpsReader, channel: usize) -> &'a [u8]
 // Where the position stands after the block read at it.
 fn position_after(slot: &[u8], r: HpsReader, channel: usize, position: usize) -> usize
     requires { ⌜ Readable r ⌝ }
-    ensures { λ n. ⌜ n ≡ blockCall position (blockRead (now (slot .entry)) r channel position) .position ⌝ }
+    ensures { λ n. ⌜ n ≡ positionAfter (now (slot .entry)) r channel position ⌝ }
 {
     read_block(slot, r, channel, position).position
 }
@@ -49,8 +50,7 @@ fn position_after(slot: &[u8], r: HpsReader, channel: usize, position: usize) ->
 // The reader moved on: past the block at its position, with 1 too; at the end and with 6 it stays.
 pub fn moved<'a>(c: ChannelReader<'a>, r: HpsReader, channel: usize) -> ChannelReader<'a>
     requires { ⌜ Readable r ⌝ }
-    ensures { λ d. ⌜ (d .slot ≡ c .entry .slot)
-        × (d .position ≡ blockCall (c .entry .position) (blockRead (now (c .entry .slot)) r channel (c .entry .position)) .position) ⌝ }
+    ensures { λ d. ⌜ (d .slot ≡ c .entry .slot) × (d .position ≡ positionAfter (now (c .entry .slot)) r channel (c .entry .position)) ⌝ }
 {
     let position = position_after(c.slot, r, channel, c.position);
     ChannelReader {
@@ -65,4 +65,21 @@ pub fn remaining<'a>(c: ChannelReader<'a>, r: HpsReader) -> RemainingReply
     ensures { λ q. ⌜ q ≡ remainingReply (dataRemaining (now (c .entry .slot)) r (c .entry .position)) ⌝ }
 {
     data_remaining(c.slot, r, c.position)
+}
+
+// The block at a position, read by a reader that is made there.
+pub fn read_at(slot: &[u8], r: HpsReader, channel: usize, position: usize) -> BlockCall
+    requires { ⌜ Readable r ⌝ }
+    ensures { λ q. ⌜ q ≡ blockCall position (blockRead (now (slot .entry)) r channel position) ⌝ }
+{
+    read(new(slot, position), r, channel)
+}
+
+// What a reader that is made at a position reads when it has moved on.
+pub fn read_next(slot: &[u8], r: HpsReader, channel: usize, position: usize) -> BlockCall
+    requires { ⌜ Readable r ⌝ }
+    ensures { λ q. ⌜ q ≡ blockCall (positionAfter (now (slot .entry)) r channel position)
+        (blockRead (now (slot .entry)) r channel (positionAfter (now (slot .entry)) r channel position)) ⌝ }
+{
+    read(moved(new(slot, position), r, channel), r, channel)
 }

@@ -13,8 +13,8 @@ use Rattle.estimate.specs.declared.EstimateReply.{EstimateReply}
 use Rattle.reader.specs.OpeningAndReading.{Opened, blockRead, Remaining}
 use Rattle.kept_reader.specs.KeptReader.{openedBytes}
 use Rattle.reader.specs.declared.HpsReader.{HpsReader}
-use Rattle.listing.specs.MarkingKey.{listingLines, linesFrom, linesFitting}
-use Rattle.listing.specs.Filling.{FilledIs}
+use Rattle.listing.specs.MarkingKey.{listingLines, linesFrom}
+use Rattle.listing.specs.Filling.{FilledIs, linesFitting}
 use Rattle.listing.specs.declared.Stage.{Stage}
 use Rattle.listing.specs.declared.listing.Line.{Line}
 use Rattle.hps.specs.Exported.{givenAfter, lengthAfter, openNumber, keptAfter, onRecord, BlockLent, blockLent, addressesAfter}

@@ -23,7 +23,8 @@ ghost use Rattle.kept_reader.specs.KeptReader.{readerIn};
 ghost use Rattle.kept_cues.specs.KeptCues.{CuesLent, cuesNumber, cuesLent};
 ghost use Rattle.hps.specs.Exported.{openNumber, keptAfter, onRecord, blockNumber, BlockLent, blockLent, remainingNumber, addressesAfter};
 ghost use Rattle.layout.specs.Puts.{putAt};
-ghost use Rattle.listing.specs.MarkingKey.{listingLines, linesFitting};
+ghost use Rattle.listing.specs.MarkingKey.{listingLines};
+ghost use Rattle.listing.specs.Filling.{linesFitting};
 
 // Opens a slot, and keeps the record in the lent bytes.
 #[no_mangle]

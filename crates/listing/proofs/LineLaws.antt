@@ -19,8 +19,8 @@ use Rattle.cue_reader.specs.declared.CueCall.{CueCall}
 use Rattle.listing.specs.declared.Stage.{Stage}
 use Rattle.listing.specs.declared.listing.Line.{Line}
 use Rattle.lines.specs.Lines.{loopLine, cueLine}
-use Rattle.listing.specs.MarkingKey.{linesFrom, listingFrom, linesFitting, linesBeyond, lineFitting, linesAfter}
-use Rattle.listing.specs.Filling.{LineIs, FilledIs}
+use Rattle.listing.specs.MarkingKey.{linesFrom, listingFrom}
+use Rattle.listing.specs.Filling.{LineIs, FilledIs, linesFitting, linesBeyond, lineFitting, linesAfter}
 use Rattle.listing.proofs.ListingLaws.{cues-none, cues-refused, cues-end, cues-loop, cues-point, sized, first-fits, fitting-next, beyond-next, full, fitting-beyond, fitting-fits, none-left}
 
 module _ (s : List ℕ) (r : HpsReader) (stage : Stage) (out : List ℕ) (at : ℕ) where
@@ -49,10 +49,12 @@ pub stage-as : (s : List ℕ) (r : HpsReader) (out : List ℕ) (at : ℕ) {t u :
 stage-as s r out at e l = rw e l
 
 -- two stages with the same lines
-pub lines-as : (s : List ℕ) (r : HpsReader) (out : List ℕ) (at : ℕ) {t u : Stage} {after : List ℕ} {q : Line} → linesFrom s r t ≡ linesFrom s r u → LineIs s r u out at after q → LineIs s r t out at after q
+pub lines-as : (s : List ℕ) (r : HpsReader) (out : List ℕ) (at : ℕ) {t u : Stage} {after : List ℕ} {q : Line} → linesFrom s r t ≡ linesFrom s r u → LineIs s r u out at after q
+    → LineIs s r t out at after q
 lines-as s r out at e l = record { long = rw e (l .long); put = rw e (l .put); rest = rw e (l .rest) }
 
-pub cursor-as : (s : List ℕ) (r : HpsReader) (out : List ℕ) (at : ℕ) {n : ℕ} {c d : CueIterator} {after : List ℕ} {q : Line} → c ≡ d → LineIs s r (Stage.Cues n c) out at after q → LineIs s r (Stage.Cues n d) out at after q
+pub cursor-as : (s : List ℕ) (r : HpsReader) (out : List ℕ) (at : ℕ) {n : ℕ} {c d : CueIterator} {after : List ℕ} {q : Line} → c ≡ d → LineIs s r (Stage.Cues n c) out at after q
+    → LineIs s r (Stage.Cues n d) out at after q
 cursor-as s r out at e l = rw (← e) l
 
 -- ---- Cues
@@ -165,7 +167,8 @@ module _ {s : List ℕ} {r : HpsReader} {from : Stage} {before : List ℕ} where
           same = ap length put-line ∙ putAt-length out at w ∙ f .same;
           is = put-line ∙ ap (λ (b : List ℕ). putAt b at w) (f .is) ∙ ap (λ (m : ℕ). putAt (putAt before 0 (f .lines)) m w) n ∙ putAt-next before 0 (f .lines) w (omega arith);
           all =
-              f .all ∙ ap (λ (b : List ℕ). f .lines ++ b) (fitting-next room ls ∙ ap (λ (m : ℕ). w ++ linesFitting m (linesAfter room ls)) same-room ∙ ap (λ (b : List (List ℕ)). w ++ linesFitting (length before - (at + q .length)) b) (sym rest-line))
+              f .all ∙ ap (λ (b : List ℕ). f .lines ++ b) (fitting-next room ls ∙ ap (λ (m : ℕ). w ++ linesFitting m (linesAfter room ls)) same-room
+              ∙ ap (λ (b : List (List ℕ)). w ++ linesFitting (length before - (at + q .length)) b) (sym rest-line))
               ∙ sym (append-assoc (f .lines) w (linesFitting (length before - (at + q .length)) (linesFrom s r (q .stage))));
           beyond = f .beyond ∙ beyond-next room ls ∙ ap (λ (m : ℕ). linesBeyond m (linesAfter room ls)) same-room ∙ ap (linesBeyond (length before - (at + q .length))) (sym rest-line);
         }

@@ -18,7 +18,8 @@ use Rattle.reader.specs.declared.CueIterator.{CueIterator}
 use Rattle.listing.specs.declared.Stage.{Stage}
 use Rattle.lines.specs.Lines.{stopLine, headLine, blockLine, loopLine, cueLine}
 use Rattle.lines.proofs.ColumnLaws.{stop-length, head-length, block-length, loop-length, cue-length}
-use Rattle.listing.specs.MarkingKey.{onCue, cueCalls, cueLines, blockLines, openedLines, linesFrom, linesFitting, linesBeyond, lineFitting, linesAfter}
+use Rattle.listing.specs.MarkingKey.{onCue, cueCalls, cueLines, blockLines, openedLines, linesFrom}
+use Rattle.listing.specs.Filling.{linesFitting, linesBeyond, lineFitting, linesAfter}
 
 module _ (s : List ℕ) (r : HpsReader) where
   pub stop-rest : (n : ℕ) → linesFrom s r (Stage.Stop n) ≡ stopLine n ∷ linesFrom s r Stage.Done
@@ -117,7 +118,8 @@ sized-blocks s r i (o ∷ os) = of (readHeader s o) (sized-blocks s r (i + 1) os
   where
     of : (h : Read BlockHeader) → Sized (blockLines s r (i + 1) os) → Sized (on h (λ n. []) (λ h. blockLine (channelIn r 0 .format) i o (lengthIn h) (h .cues) ∷ blockLines s r (i + 1) os))
     of (Read.refused n) z = tt
-    of (Read.value h) z = sized-more (blockLine (channelIn r 0 .format) i o (lengthIn h) (h .cues)) (blockLines s r (i + 1) os) 60 (block-length (channelIn r 0 .format) i o (lengthIn h) (h .cues)) (omega arith) (omega arith) z
+    of (Read.value h) z = sized-more (blockLine (channelIn r 0 .format) i o (lengthIn h) (h .cues))
+        (blockLines s r (i + 1) os) 60 (block-length (channelIn r 0 .format) i o (lengthIn h) (h .cues)) (omega arith) (omega arith) z
 
 pub sized : (s : List ℕ) (r : HpsReader) (stage : Stage) → Sized (linesFrom s r stage)
 unfolding Sized linesFrom openedLines

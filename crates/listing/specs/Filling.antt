@@ -1,13 +1,36 @@
--- What the calls that put lines do: what is put and how long it is, the rest of the buffer unchanged, and the stage from which the other lines come.
+-- As many lines of a listing as fit into a room, and what the calls that put them do.
 use Prim.Native.Nat.{ℕ, _-_}
 use mathlib.Core.Path.{_≡_}
-use mathlib.Core.List.{List}
+use mathlib.Core.List.{List, [], _∷_, _++_}
 use lib.ListN.{length}
+use lib.Dec.{leb}
+use Rattle.layout.specs.Choice.{pick}
 use Rattle.layout.specs.Puts.{putAt}
 use Rattle.reader.specs.declared.HpsReader.{HpsReader}
 use Rattle.listing.specs.declared.Stage.{Stage}
 use Rattle.listing.specs.declared.listing.Line.{Line}
-use Rattle.listing.specs.MarkingKey.{linesFrom, linesFitting, linesBeyond, lineFitting, linesAfter}
+use Rattle.listing.specs.MarkingKey.{linesFrom}
+
+-- The whole lines, from the first on, that fit into a room of so many bytes, one after the other: the first that does not fit ends them.
+unfoldable pub linesFitting : (room : ℕ) → (lines : List (List ℕ)) → List ℕ
+linesFitting room [] = []
+linesFitting room (l ∷ ls) = pick (leb (length l) room) (l ++ linesFitting (room - length l) ls) []
+
+-- The lines from that one on.
+unfoldable pub linesBeyond : (room : ℕ) → (lines : List (List ℕ)) → List (List ℕ)
+linesBeyond room [] = []
+linesBeyond room (l ∷ ls) = pick (leb (length l) room) (linesBeyond (room - length l) ls) (l ∷ ls)
+
+-- The first line where it fits, else nothing; and the lines that are left then.
+abbrev pub lineFitting : (room : ℕ) → (lines : List (List ℕ)) → List ℕ
+lineFitting room [] = []
+lineFitting room (l ∷ ls) = pick (leb (length l) room) l []
+
+abbrev pub linesAfter : (room : ℕ) → (lines : List (List ℕ)) → List (List ℕ)
+linesAfter room [] = []
+linesAfter room (l ∷ ls) = pick (leb (length l) room) ls (l ∷ ls)
+
+-- ---- What is put and how long it is, the rest of the buffer unchanged, and the stage from which the other lines come
 
 -- The next line from an offset on, where it fits.
 pub record LineIs (s : List ℕ) (r : HpsReader) (stage : Stage) (before : List ℕ) (at : ℕ) (after : List ℕ) (q : Line) : Type 0 where

@@ -1,8 +1,8 @@
--- Marking key (document 01, "Marking key and estimate"): the lines of a slot's listing, the bytes that `key` prints, and as many lines as fit into a room.
-use Prim.Native.Nat.{ℕ, zero, suc, _+_, _-_}
-use mathlib.Core.List.{List, [], _∷_, _++_, flatten}
+-- Marking key (document 01, "Marking key and estimate"): the lines of a slot's listing, and the bytes that `key` prints.
+use Prim.Native.Nat.{ℕ, zero, suc, _+_}
+use mathlib.Core.List.{List, [], _∷_, flatten}
 use lib.ListN.{length}
-use lib.Dec.{ltb, leb}
+use lib.Dec.{ltb}
 use Rattle.layout.specs.Choice.{pick}
 use Rattle.layout.specs.Records.{on, readHeader, lengthIn}
 use Rattle.reader.specs.OpeningAndReading.{Opened, refused, opened, opening, channelIn, offsetsFrom}
@@ -71,24 +71,3 @@ linesFrom s r Stage.Done = []
 -- The same as bytes.
 abbrev pub listingFrom : List ℕ → HpsReader → Stage → List ℕ
 listingFrom s r stage = flatten (linesFrom s r stage)
-
--- ---- As many lines as fit
-
--- The whole lines, from the first on, that fit into a room of so many bytes, one after the other: the first that does not fit ends them.
-unfoldable pub linesFitting : (room : ℕ) → (lines : List (List ℕ)) → List ℕ
-linesFitting room [] = []
-linesFitting room (l ∷ ls) = pick (leb (length l) room) (l ++ linesFitting (room - length l) ls) []
-
--- The lines from that one on.
-unfoldable pub linesBeyond : (room : ℕ) → (lines : List (List ℕ)) → List (List ℕ)
-linesBeyond room [] = []
-linesBeyond room (l ∷ ls) = pick (leb (length l) room) (linesBeyond (room - length l) ls) (l ∷ ls)
-
--- The first line where it fits, else nothing; and the lines that are left then.
-abbrev pub lineFitting : (room : ℕ) → (lines : List (List ℕ)) → List ℕ
-lineFitting room [] = []
-lineFitting room (l ∷ ls) = pick (leb (length l) room) l []
-
-abbrev pub linesAfter : (room : ℕ) → (lines : List (List ℕ)) → List (List ℕ)
-linesAfter room [] = []
-linesAfter room (l ∷ ls) = pick (leb (length l) room) ls (l ∷ ls)

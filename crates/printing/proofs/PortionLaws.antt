@@ -11,8 +11,8 @@ use borrow.Author.Tests.{eqb-true, eqb-false}
 use Rattle.layout.proofs.Cases.{by-cases}
 use Rattle.puts.proofs.PutLaws.{putAt-in, putAt-length}
 use Rattle.reader.specs.declared.HpsReader.{HpsReader}
-use Rattle.listing.specs.MarkingKey.{linesFrom, listingFrom, linesFitting}
-use Rattle.listing.specs.Filling.{FilledIs}
+use Rattle.listing.specs.MarkingKey.{linesFrom, listingFrom}
+use Rattle.listing.specs.Filling.{FilledIs, linesFitting}
 use Rattle.listing.proofs.LineLaws.{filled-fits, filled-rest, filled-none}
 use Rattle.listing.specs.declared.Stage.{Stage}
 use Rattle.listing.specs.declared.listing.Line.{Line}

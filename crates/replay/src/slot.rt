@@ -2,7 +2,8 @@
 use block_reader::blocks::BlockCall;
 use block_reader::blocks::BlockReply;
 use block_reader::blocks::block_data;
-use block_reader::blocks::read_block;
+use channel_reader::read_at;
+use channel_reader::read_next;
 use check::same;
 use io::large_buffer;
 use layout::Channel;
@@ -23,7 +24,8 @@ use stored::size;
 ghost use Prim.Native.Nat.{_<_};
 ghost use mathlib.Core.Path.{_≡_};
 ghost use lib.ListN.{length};
-ghost use Rattle.reader.specs.OpeningAndReading.{Readable};
+ghost use Rattle.reader.specs.OpeningAndReading.{Readable, blockRead};
+ghost use Rattle.block_reader.specs.BlockAnswers.{blockCall};
 
 // A listing has fewer than 5,000,000 bytes, and each turn compares 65,000 or the rest.
 const TURNS: usize = 100;
@@ -144,6 +146,23 @@ fn is_block(q: BlockCall, position: usize, want: &[u8]) -> bool
         & is_info(coefficients, q.gain, context, want, 36)
 }
 
+// The block at a position as a channel reader gives it: one that has moved on from the block before, where there is one, else one that is made there.
+fn reader_answer(s: &[u8], r: HpsReader, channel: usize, position: usize) -> BlockCall
+    requires { ⌜ Readable r ⌝ }
+    ensures { λ q. ⌜ q ≡ blockCall position (blockRead (now (s .entry)) r channel position) ⌝ }
+{
+    if r.count <= channel {
+        return read_at(s, r, channel, position);
+    }
+    if r.blocks < position {
+        return read_at(s, r, channel, position);
+    }
+    if position == 0 {
+        return read_at(s, r, channel, position);
+    }
+    read_next(s, r, channel, position - 1)
+}
+
 // The addresses remaining and the block read, with its data.
 fn is_answer(
     s: &[u8],
@@ -159,7 +178,7 @@ fn is_answer(
         return false;
     }
     let left = data_remaining(s, r, position);
-    let q = read_block(s, r, channel, position);
+    let q = reader_answer(s, r, channel, position);
     is_remaining(left, want)
         & is_block(q, position, want)
         & same(block_data(s, r, channel, position), data)

@@ -263,8 +263,14 @@ fn a_listing_comes_in_whole_lines() {
     for n in 0..whole.len() + LISTING_LINE {
         let mut out = [0x5A; 4096];
         let part = listing(&slot, &mut out[..n]).to_vec();
-        assert!(whole.starts_with(&part) && (part.is_empty() || part.ends_with(b"\n")));
-        assert!(n - part.len() < LISTING_LINE || part == whole, "a line was left out");
+        let mut fits = 0;
+        for line in whole.split_inclusive(|b| *b == b'\n') {
+            if fits + line.len() > n {
+                break;
+            }
+            fits += line.len();
+        }
+        assert_eq!(part, whole[..fits], "other than the whole lines that fit into {n} bytes");
         assert!(out[part.len()..].iter().all(|b| *b == 0x5A), "bytes beyond the lines were changed");
     }
     assert_eq!(listing(&slot[..100], &mut out), b"STOP          1\n");

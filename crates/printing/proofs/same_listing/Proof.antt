@@ -15,13 +15,21 @@ same-stop-requires : tie.Need-same-stop-requires
 same-stop-requires c κs = search needs
 
 returns : tie.Need-returns
-returns c = (λ t. sym (ap flatten (c .before .before .before .start-listing .ensures .0)) ∙ c .before .same-stop .ensures (c .if1 .taken) _ _ _ _ ∙ ap flatten (c .before .before .start-listing2 .ensures .0), λ t. apart t)
+returns c = (
+  λ t. sym (ap flatten (c .before .before .before .start-listing .ensures .0)) ∙ c .before .same-stop .ensures (c .if1 .taken) _ _ _ _
+      ∙ ap flatten (c .before .before .start-listing2 .ensures .0),
+  λ t. apart t,
+)
 
 same-lines-requires : tie.Need-same-lines-requires
 same-lines-requires c κs = search needs
 
 returns-2 : tie.Need-returns-2
-returns-2 c = (λ t. sym (ap flatten (c .before .before .before .before .before .before .start-listing .ensures .0)) ∙ c .same-lines .ensures .0 t ∙ ap flatten (c .before .before .before .before .before .start-listing2 .ensures .0), λ t e. c .same-lines .ensures .1 t (ap flatten (c .before .before .before .before .before .before .start-listing .ensures .0) ∙ e ∙ sym (ap flatten (c .before .before .before .before .before .start-listing2 .ensures .0))))
+returns-2 c = (
+  λ t. sym (ap flatten (c .before .before .before .before .before .before .start-listing .ensures .0)) ∙ c .same-lines .ensures .0 t
+      ∙ ap flatten (c .before .before .before .before .before .start-listing2 .ensures .0),
+  λ t e. c .same-lines .ensures .1 t (ap flatten (c .before .before .before .before .before .before .start-listing .ensures .0) ∙ e ∙ sym (ap flatten (c .before .before .before .before .before .start-listing2 .ensures .0))),
+)
 
 pub same-listing-spec : {M : Type 1} → statement M
 same-listing-spec =

@@ -43,7 +43,8 @@ returns c =
     let z = c .before .before .before .before .before .before .before in
     let a = z .args in
     line-done (now (a .s)) (a .t2) (Stage.Blocks (a .i)) (now (a .out)) (a .at) _ (c .no-line .ensures)
-    (block-short (now (a .s)) (a .t2) (shaped (a .t2) _ (z .good .1 .0) .offsets) (z .pre .0 .blocks) (a .i) (z .pre .1) _ (header-short _ _ (c .before .before .before .read-header .ensures) (c .before .enum-told .given .1)))
+    (block-short (now (a .s)) (a .t2) (shaped (a .t2) _ (z .good .1 .0) .offsets) (z .pre .0 .blocks) (a .i)
+    (z .pre .1) _ (header-short _ _ (c .before .before .before .read-header .ensures) (c .before .enum-told .given .1)))
 
 inside-requires : tie.Need-inside-requires
 inside-requires c κs = search needs
@@ -56,8 +57,10 @@ returns-2 c =
     let z = c .before .before .before .before .before .before .before .before .before .before in
     let a = z .args in
     let h = c .before .before .before .before .header .given .0 .0 in
-    line-full (now (a .s)) (a .t2) (Stage.Blocks (a .i)) (now (a .out)) (a .at) (blockLine (channelIn (a .t2) 0 .format) (a .i) (offsetIn (a .t2) (a .i)) (lengthIn h) (h .cues)) 60 _ (block-length _ _ _ _ _)
-    (block-rest (now (a .s)) (a .t2) (shaped (a .t2) _ (z .good .1 .0) .offsets) (z .pre .0 .blocks) (a .i) (z .pre .1) h (header-got _ _ (c .before .before .before .before .before .before .read-header .ensures) (c .before .before .before .before .header .given .1)))
+    line-full (now (a .s)) (a .t2) (Stage.Blocks (a .i)) (now (a .out)) (a .at)
+    (blockLine (channelIn (a .t2) 0 .format) (a .i) (offsetIn (a .t2) (a .i)) (lengthIn h) (h .cues)) 60 _ (block-length _ _ _ _ _)
+    (block-rest (now (a .s)) (a .t2) (shaped (a .t2) _ (z .good .1 .0) .offsets) (z .pre .0 .blocks) (a .i)
+    (z .pre .1) h (header-got _ _ (c .before .before .before .before .before .before .read-header .ensures) (c .before .before .before .before .header .given .1)))
     _ (c .no-line2 .ensures) (sym (c .before .before .inside .ensures) ∙ not-true _ (c .before .if1 .taken)) (omega arith)
 
 element-copy-out-left : tie.Need-element-copy-out-left
@@ -79,8 +82,11 @@ returns-3 c =
     let h = c .before .before .before .before .before .before .before .before .header .given .0 .0 in
     let l : 0 < length (a .t2 .channels) = omega (arith, shaped (a .t2) _ (z .good .1 .0) .channels) in
     let f = ap (λ (x : Channel). x .format) (element (a .t2 .channels) 0 noChannel _ l) in
-    line-put (now (a .s)) (a .t2) (Stage.Blocks (a .i)) (now (a .out)) (a .at) (blockLine (channelIn (a .t2) 0 .format) (a .i) (offsetIn (a .t2) (a .i)) (lengthIn h) (h .cues)) 60 _ (block-length _ _ _ _ _)
-    (block-rest (now (a .s)) (a .t2) (shaped (a .t2) _ (z .good .1 .0) .offsets) (z .pre .0 .blocks) (a .i) (z .pre .1) h (header-got _ _ (c .before .before .before .before .before .before .before .before .before .before .read-header .ensures) (c .before .before .before .before .before .before .before .before .header .given .1)))
+    line-put (now (a .s)) (a .t2) (Stage.Blocks (a .i)) (now (a .out)) (a .at)
+    (blockLine (channelIn (a .t2) 0 .format) (a .i) (offsetIn (a .t2) (a .i)) (lengthIn h) (h .cues)) 60 _ (block-length _ _ _ _ _)
+    (block-rest (now (a .s)) (a .t2) (shaped (a .t2) _ (z .good .1 .0) .offsets) (z .pre .0 .blocks) (a .i)
+    (z .pre .1) h (header-got _ _ (c .before .before .before .before .before .before .before .before .before .before .read-header .ensures)
+    (c .before .before .before .before .before .before .before .before .header .given .1)))
     _ (c .before .before .put-block .ensures ∙ ap (λ (g : DspFormat). putAt (now (a .out)) (a .at) (blockLine g (a .i) (offsetIn (a .t2) (a .i)) (lengthIn h) (h .cues))) (sym f))
     (sym (c .before .before .before .before .before .before .inside .ensures) ∙ not-false _ (c .before .before .before .before .before .if1 .left))
 

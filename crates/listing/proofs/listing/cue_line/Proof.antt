@@ -46,7 +46,8 @@ returns-2 : tie.Need-returns-2
 returns-2 c =
     let a = c .before .before .before .before .before .before .before .before .before .before .before .args in
     line-full (now (a .s)) (a .r) (Stage.Cues (a .calls) (a .c)) (now (a .out)) (a .at) (loopLine _) 26 _ (loop-length _)
-    (after-loop (now (a .s)) (a .r) (a .calls) (a .c) (some _ (c .before .before .before .before .before .before .before .before .if1 .left)) _ (c .before .before .before .before .before .before .before .next-cue .ensures) _ (c .before .before .before .before .reply .given .1))
+    (after-loop (now (a .s)) (a .r) (a .calls) (a .c)
+    (some _ (c .before .before .before .before .before .before .before .before .if1 .left)) _ (c .before .before .before .before .before .before .before .next-cue .ensures) _ (c .before .before .before .before .reply .given .1))
     _ (c .no-line4 .ensures) (sym (c .before .before .inside .ensures) ∙ not-true _ (c .before .if2 .taken)) (omega arith)
 
 put-loop-requires : tie.Need-put-loop-requires
@@ -68,7 +69,8 @@ returns-3 : tie.Need-returns-3
 returns-3 c =
     let a = c .before .before .before .before .before .before .before .before .before .before .before .args in
     line-full (now (a .s)) (a .r) (Stage.Cues (a .calls) (a .c)) (now (a .out)) (a .at) (cueLine _ _) 37 _ (cue-length _ _)
-    (after-point (now (a .s)) (a .r) (a .calls) (a .c) (some _ (c .before .before .before .before .before .before .before .before .if1 .left)) _ (c .before .before .before .before .before .before .before .next-cue .ensures) _ _ (c .before .before .before .before .reply2 .given .1))
+    (after-point (now (a .s)) (a .r) (a .calls) (a .c)
+    (some _ (c .before .before .before .before .before .before .before .before .if1 .left)) _ (c .before .before .before .before .before .before .before .next-cue .ensures) _ _ (c .before .before .before .before .reply2 .given .1))
     _ (c .no-line5 .ensures) (sym (c .before .before .inside2 .ensures) ∙ not-true _ (c .before .if3 .taken)) (omega arith)
 
 put-cue-requires : tie.Need-put-cue-requires
@@ -81,13 +83,15 @@ returns-4 : tie.Need-returns-4
 returns-4 c =
     let a = c .before .before .before .before .before .before .before .before .args in
     line-done (now (a .s)) (a .r) (Stage.Cues (a .calls) (a .c)) (now (a .out)) (a .at) _ (c .no-line2 .ensures)
-    (after-refused (now (a .s)) (a .r) (a .calls) (a .c) (some _ (c .before .before .before .before .before .if1 .left)) _ (c .before .before .before .before .next-cue .ensures) _ (c .before .enum-told .given .1))
+    (after-refused (now (a .s)) (a .r) (a .calls) (a .c)
+    (some _ (c .before .before .before .before .before .if1 .left)) _ (c .before .before .before .before .next-cue .ensures) _ (c .before .enum-told .given .1))
 
 returns-5 : tie.Need-returns-5
 returns-5 c =
     let a = c .before .before .before .before .before .before .before .before .args in
     line-done (now (a .s)) (a .r) (Stage.Cues (a .calls) (a .c)) (now (a .out)) (a .at) _ (c .no-line3 .ensures)
-    (after-end (now (a .s)) (a .r) (a .calls) (a .c) (some _ (c .before .before .before .before .before .if1 .left)) _ (c .before .before .before .before .next-cue .ensures) (c .before .enum-told2 .given .1))
+    (after-end (now (a .s)) (a .r) (a .calls) (a .c) (some _ (c .before .before .before .before .before .if1 .left)) _ (c .before .before .before .before .next-cue .ensures)
+    (c .before .enum-told2 .given .1))
 
 same-length : tie.Need-same-length
 same-length c = search needs
@@ -96,7 +100,8 @@ returns-6 : tie.Need-returns-6
 returns-6 c =
     let a = c .before .before .before .before .before .before .before .before .before .before .before .before .before .before .args in
     line-put (now (a .s)) (a .r) (Stage.Cues (a .calls) (a .c)) (now (a .out)) (a .at) (loopLine _) 26 _ (loop-length _)
-    (after-loop (now (a .s)) (a .r) (a .calls) (a .c) (some _ (c .before .before .before .before .before .before .before .before .before .before .before .if1 .left)) _ (c .before .before .before .before .before .before .before .before .before .before .next-cue .ensures) _ (c .before .before .before .before .before .before .before .reply .given .1))
+    (after-loop (now (a .s)) (a .r) (a .calls) (a .c)
+    (some _ (c .before .before .before .before .before .before .before .before .before .before .before .if1 .left)) _ (c .before .before .before .before .before .before .before .before .before .before .next-cue .ensures) _ (c .before .before .before .before .before .before .before .reply .given .1))
     _ (c .before .before .put-loop .ensures) (sym (c .before .before .before .before .before .inside .ensures) ∙ not-false _ (c .before .before .before .before .if2 .left))
 
 same-length-2 : tie.Need-same-length-2
@@ -106,7 +111,8 @@ returns-7 : tie.Need-returns-7
 returns-7 c =
     let a = c .before .before .before .before .before .before .before .before .before .before .before .before .before .before .args in
     line-put (now (a .s)) (a .r) (Stage.Cues (a .calls) (a .c)) (now (a .out)) (a .at) (cueLine _ _) 37 _ (cue-length _ _)
-    (after-point (now (a .s)) (a .r) (a .calls) (a .c) (some _ (c .before .before .before .before .before .before .before .before .before .before .before .if1 .left)) _ (c .before .before .before .before .before .before .before .before .before .before .next-cue .ensures) _ _ (c .before .before .before .before .before .before .before .reply2 .given .1))
+    (after-point (now (a .s)) (a .r) (a .calls) (a .c)
+    (some _ (c .before .before .before .before .before .before .before .before .before .before .before .if1 .left)) _ (c .before .before .before .before .before .before .before .before .before .before .next-cue .ensures) _ _ (c .before .before .before .before .before .before .before .reply2 .given .1))
     _ (c .before .before .put-cue .ensures) (sym (c .before .before .before .before .before .inside2 .ensures) ∙ not-false _ (c .before .before .before .before .if3 .left))
 
 pub cue-line-spec : {M : Type 1} → statement M

@@ -27,7 +27,12 @@ add-at : tie.Need-add-at Inv-loop μ-loop
 add-at c = omega (arith, filling-more (c .before .before .before .before .before .before .before .loop .inv) (c .before .before .before .before .before .put-line .ensures) .fits)
 
 loop-less : tie.Need-loop-less Inv-loop μ-loop
-loop-less c = omega (arith, filling-more (c .before .before .before .before .before .before .before .loop .inv) (c .before .before .before .before .before .put-line .ensures) .fits, some _ (c .before .if1 .left))
+loop-less c = omega (
+  arith,
+  filling-more (c .before .before .before .before .before .before .before .loop .inv)
+      (c .before .before .before .before .before .put-line .ensures) .fits,
+  some _ (c .before .if1 .left),
+)
 
 loop-again : tie.Need-loop-again Inv-loop μ-loop
 loop-again c = filling-more (c .before .before .before .before .before .before .before .loop .inv) (c .before .before .before .before .before .put-line .ensures)

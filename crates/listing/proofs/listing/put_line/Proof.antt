@@ -25,7 +25,8 @@ returns : tie.Need-returns
 returns c =
     let a = c .before .before .before .before .before .before .before .before .args in
     stage-as (now (a .s)) (a .r) (now (a .out)) (a .at) (c .before .before .before .before .stage .given .1)
-    (line-full (now (a .s)) (a .r) (Stage.Stop _) (now (a .out)) (a .at) (stopLine _) 16 _ (stop-length _) (stop-rest (now (a .s)) (a .r) _) _ (c .no-line .ensures) (sym (c .before .before .inside .ensures) ∙ not-true _ (c .before .if1 .taken)) (omega arith))
+    (line-full (now (a .s)) (a .r) (Stage.Stop _) (now (a .out)) (a .at) (stopLine _) 16 _ (stop-length _) (stop-rest (now (a .s)) (a .r) _) _ (c .no-line .ensures)
+    (sym (c .before .before .inside .ensures) ∙ not-true _ (c .before .if1 .taken)) (omega arith))
 
 put-stop-requires : tie.Need-put-stop-requires
 put-stop-requires c κs = search needs
@@ -43,7 +44,8 @@ returns-2 : tie.Need-returns-2
 returns-2 c =
     let a = c .before .before .before .before .before .before .before .args in
     stage-as (now (a .s)) (a .r) (now (a .out)) (a .at) (c .before .before .before .enum-told .given .1)
-    (line-full (now (a .s)) (a .r) Stage.Head (now (a .out)) (a .at) (headLine (a .r)) 49 _ (head-length (a .r)) (head-rest (now (a .s)) (a .r)) _ (c .no-line2 .ensures) (sym (c .before .before .inside2 .ensures) ∙ not-true _ (c .before .if2 .taken)) (omega arith))
+    (line-full (now (a .s)) (a .r) Stage.Head (now (a .out)) (a .at) (headLine (a .r)) 49 _ (head-length (a .r)) (head-rest (now (a .s)) (a .r)) _ (c .no-line2 .ensures)
+    (sym (c .before .before .inside2 .ensures) ∙ not-true _ (c .before .if2 .taken)) (omega arith))
 
 put-head-requires : tie.Need-put-head-requires
 put-head-requires c κs = search needs
@@ -79,7 +81,8 @@ returns-3 : tie.Need-returns-3
 returns-3 c =
     let a = c .before .before .before .before .before .before .before .before .before .before .before .args in
     stage-as (now (a .s)) (a .r) (now (a .out)) (a .at) (c .before .before .before .before .before .before .before .stage .given .1)
-    (line-put (now (a .s)) (a .r) (Stage.Stop _) (now (a .out)) (a .at) (stopLine _) 16 _ (stop-length _) (stop-rest (now (a .s)) (a .r) _) _ (c .before .before .put-stop .ensures) (sym (c .before .before .before .before .before .inside .ensures) ∙ not-false _ (c .before .before .before .before .if1 .left)))
+    (line-put (now (a .s)) (a .r) (Stage.Stop _) (now (a .out)) (a .at) (stopLine _) 16 _ (stop-length _) (stop-rest (now (a .s)) (a .r) _) _ (c .before .before .put-stop .ensures)
+    (sym (c .before .before .before .before .before .inside .ensures) ∙ not-false _ (c .before .before .before .before .if1 .left)))
 
 same-length-2 : tie.Need-same-length-2
 same-length-2 c = search needs
@@ -88,7 +91,9 @@ returns-4 : tie.Need-returns-4
 returns-4 c =
     let a = c .before .before .before .before .before .before .before .before .before .before .args in
     stage-as (now (a .s)) (a .r) (now (a .out)) (a .at) (c .before .before .before .before .before .before .enum-told .given .1)
-    (line-put (now (a .s)) (a .r) Stage.Head (now (a .out)) (a .at) (headLine (a .r)) 49 _ (head-length (a .r)) (head-rest (now (a .s)) (a .r)) _ (c .before .before .put-head .ensures) (sym (c .before .before .before .before .before .inside2 .ensures) ∙ not-false _ (c .before .before .before .before .if2 .left)))
+    (line-put (now (a .s)) (a .r) Stage.Head (now (a .out)) (a .at) (headLine (a .r)) 49 _ (head-length (a .r))
+    (head-rest (now (a .s)) (a .r)) _ (c .before .before .put-head .ensures)
+    (sym (c .before .before .before .before .before .inside2 .ensures) ∙ not-false _ (c .before .before .before .before .if2 .left)))
 
 same-length-3 : tie.Need-same-length-3
 same-length-3 c = search needs
@@ -105,9 +110,11 @@ returns-6 : tie.Need-returns-6
 returns-6 c =
     let z = c .before .before .before .before .before .before .before .before .before .before .before .before in
     let a = z .args in
-    let e = blocks-past (now (a .s)) (a .r) (shaped (a .r) _ (z .good .1 .0) .offsets) (z .pre .blocks) (c .before .before .before .before .before .before .before .before .stage2 .given .0 .0) (omega arith) in
+    let e = blocks-past (now (a .s)) (a .r) (shaped (a .r) _ (z .good .1 .0) .offsets) (z .pre .blocks)
+    (c .before .before .before .before .before .before .before .before .stage2 .given .0 .0) (omega arith) in
     stage-as (now (a .s)) (a .r) (now (a .out)) (a .at) (c .before .before .before .before .before .before .before .before .stage2 .given .1)
-    (lines-as (now (a .s)) (a .r) (now (a .out)) (a .at) e (cursor-as (now (a .s)) (a .r) (now (a .out)) (a .at) (c .before .before .before .before .first-cursor .ensures) (c .before .before .cue-line .ensures)))
+    (lines-as (now (a .s)) (a .r) (now (a .out)) (a .at) e (cursor-as (now (a .s)) (a .r) (now (a .out)) (a .at) (c .before .before .before .before .first-cursor .ensures)
+    (c .before .before .cue-line .ensures)))
 
 same-length-5 : tie.Need-same-length-5
 same-length-5 c = search needs
@@ -120,7 +127,8 @@ returns-7 c =
 returns-8 : tie.Need-returns-8
 returns-8 c =
     let a = c .before .before .before .before .before .args in
-    stage-as (now (a .s)) (a .r) (now (a .out)) (a .at) (c .before .enum-told2 .given .1) (line-done (now (a .s)) (a .r) Stage.Done (now (a .out)) (a .at) _ (c .no-line3 .ensures) (done-rest (now (a .s)) (a .r)))
+    stage-as (now (a .s)) (a .r) (now (a .out)) (a .at) (c .before .enum-told2 .given .1)
+    (line-done (now (a .s)) (a .r) Stage.Done (now (a .out)) (a .at) _ (c .no-line3 .ensures) (done-rest (now (a .s)) (a .r)))
 
 pub put-line-spec : {M : Type 1} → statement M
 put-line-spec =

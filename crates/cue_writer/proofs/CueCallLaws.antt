@@ -1,19 +1,19 @@
 -- For the proof of cue: start and range length, the cue at its place, the answers in their order.
 use Prim.Native.Nat.{ℕ, zero, suc, _+_, _-_, _<_, _≤_}
 use mathlib.Core.Path.{_≡_, refl, ap, sym, _∙_}
-use mathlib.Core.Bool.{Bool, true, false, not}
+use mathlib.Core.Bool.{Bool, true, false}
 use mathlib.Core.List.{List, [], _∷_, _++_, append-assoc}
 use native.Mathlib.Omega.{arith}
 use native.Mathlib.Nat.{sub-zero}
 use borrow.Author.Tests.{lt-ltb, le-ltb, le-leb, lt-leb, ne-eqb, leb-false}
-use lib.Dec.{ltb, leb, eqb}
+use lib.Dec.{ltb, eqb}
 use lib.ListN.{length, take, drop, length-take}
 use lib.Seq.{take-take, take-nil}
-use Rattle.layout.specs.Choice.{_or_, _and_}
+use Rattle.layout.specs.Choice.{_or_}
 use Rattle.layout.specs.Lists.{firstIndex}
-use Rattle.layout.specs.Refusals.{due, firstDue, startLimit, cueLimit}
+use Rattle.layout.specs.Refusals.{startLimit, firstDue}
 use Rattle.layout.proofs.Cases.{by-cases}
-use Rattle.writer.specs.Loading.{zeroRange, before, has, insert, cueRefusal}
+use Rattle.writer.specs.Loading.{zeroRange, before, has, insert, cueOrder, cueRefusal}
 use Rattle.writer.specs.declared.CueKind.{CueKind}
 use Rattle.writer.specs.declared.CueKind.the-variants.{Point, Loop, Range}
 use Rattle.writer.specs.declared.Cue.{Cue}
@@ -59,28 +59,25 @@ drop-take (suc i) (suc n) (x ∷ t) = let z : suc n - suc i ≡ n - i = omega ar
 
 -- ---- The first number due
 
-abbrev dueBy : (blocks : ℕ) (bad equal : Bool) (count : ℕ) → ℕ
-dueBy n bad equal k = firstDue (due 21 (ltb 0 n) ∷ due 8 bad ∷ due 20 (not equal and leb cueLimit k) ∷ [])
-
 module _ (n : ℕ) (bad equal : Bool) (k : ℕ) where
-  pub cue-21 : 0 < n → 21 ≡ dueBy n bad equal k
+  pub cue-21 : 0 < n → 21 ≡ cueOrder n bad equal k
   unfolding firstDue
   cue-21 h = rw (lt-ltb 0 n h)
 
   module _ (none : n ≤ 0) where
-    pub cue-8 : bad ≡ true → 8 ≡ dueBy n bad equal k
+    pub cue-8 : bad ≡ true → 8 ≡ cueOrder n bad equal k
     unfolding firstDue
     cue-8 h = rw (le-ltb 0 n none, h)
 
-    pub cue-equal : bad ≡ false → equal ≡ true → 0 ≡ dueBy n bad equal k
+    pub cue-equal : bad ≡ false → equal ≡ true → 0 ≡ cueOrder n bad equal k
     unfolding firstDue
     cue-equal b h = rw (le-ltb 0 n none, b, h)
 
-    pub cue-20 : bad ≡ false → equal ≡ false → 128 ≤ k → 20 ≡ dueBy n bad equal k
+    pub cue-20 : bad ≡ false → equal ≡ false → 128 ≤ k → 20 ≡ cueOrder n bad equal k
     unfolding firstDue
     cue-20 b f h = rw (le-ltb 0 n none, b, f, le-leb 128 k h)
 
-    pub cue-fine : bad ≡ false → equal ≡ false → k < 128 → 0 ≡ dueBy n bad equal k
+    pub cue-fine : bad ≡ false → equal ≡ false → k < 128 → 0 ≡ cueOrder n bad equal k
     unfolding firstDue
     cue-fine b f h = rw (le-ltb 0 n none, b, f, lt-leb 128 k h)
 
@@ -94,11 +91,11 @@ held-count : (w : HpsWriter) → Good w → length (held w) ≡ w .count
 held-count w g = length-take (w .count) (w .cues) ∙ omega (arith, g .few, g .table)
 
 -- none is due, and no equal cue is held
-pub room-left : (n : ℕ) (b f : Bool) (k r : ℕ) → r ≡ dueBy n b f k → r ≡ 0 → f ≡ false → k < 128
+pub room-left : (n : ℕ) (b f : Bool) (k r : ℕ) → r ≡ cueOrder n b f k → r ≡ 0 → f ≡ false → k < 128
 room-left n b f k r e z h = leb-false 128 k (rw h at (passed-cue _ _ _ (sym e ∙ z) .no20))
 
 is-due : (w : HpsWriter) (c : Cue) → Good w → (b f : Bool) (r : ℕ) → b ≡ (ltb startLimit (c .start) or zeroRange (c .kind)) → f ≡ has c (held w)
-    → r ≡ dueBy (w .blocks) b f (w .count) → r ≡ cueRefusal (w .blocks) (held w) c
+    → r ≡ cueOrder (w .blocks) b f (w .count) → r ≡ cueRefusal (w .blocks) (held w) c
 is-due w c g b f r eb ef er = er ∙ rw (eb, ef, held-count w g)
 
 module _ (w : HpsWriter) (c : Cue) (g : Good w) {q : Cued} where
@@ -113,7 +110,7 @@ module _ (w : HpsWriter) (c : Cue) (g : Good w) {q : Cued} where
   unfolding cueOf
   accepts-as v e r h = and-good (e ∙ rw (r, h))
 
-  module _ {b f : Bool} {r : ℕ} (eb : b ≡ (ltb startLimit (c .start) or zeroRange (c .kind))) (ef : f ≡ has c (held w)) (er : r ≡ dueBy (w .blocks) b f (w .count)) where
+  module _ {b f : Bool} {r : ℕ} (eb : b ≡ (ltb startLimit (c .start) or zeroRange (c .kind))) (ef : f ≡ has c (held w)) (er : r ≡ cueOrder (w .blocks) b f (w .count)) where
     pub refused-cue : q ≡ record { reply = Refused r; writer = w } → (r ≡ 0 → ⊥) → Answers w c q
     refused-cue e h = refuses-with r e (sym (is-due w c g b f r eb ef er)) h
 

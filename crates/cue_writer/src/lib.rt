@@ -8,13 +8,11 @@ use writer::Cued;
 use writer::HpsWriter;
 use writer::Reply;
 ghost use mathlib.Core.Path.{_≡_};
-ghost use mathlib.Core.Bool.{not};
-ghost use mathlib.Core.List.{[], _∷_};
 ghost use Prim.Native.Nat.{_+_};
-ghost use lib.Dec.{ltb, leb};
-ghost use Rattle.layout.specs.Choice.{_or_, _and_};
-ghost use Rattle.layout.specs.Refusals.{due, firstDue, startLimit, cueLimit};
-ghost use Rattle.writer.specs.Loading.{zeroRange};
+ghost use lib.Dec.{ltb};
+ghost use Rattle.layout.specs.Choice.{_or_};
+ghost use Rattle.layout.specs.Refusals.{startLimit};
+ghost use Rattle.writer.specs.Loading.{zeroRange, cueOrder};
 ghost use Rattle.writer.specs.Calls.{Good, cueOf, cued};
 
 const START_LIMIT: u64 = 2147483647;
@@ -35,9 +33,9 @@ fn is_bad(start: u64, kind: CueKind) -> bool
     }
 }
 
-// The first number due, 0 where none is: 21, 8, an equal cue, 20.
+// The first number due, 0 where none is.
 fn cue_due(blocks: usize, bad: bool, equal: bool, count: usize) -> u32
-    ensures { λ r. ⌜ r ≡ firstDue (due 21 (ltb 0 blocks) ∷ due 8 bad ∷ due 20 (not equal and leb cueLimit count) ∷ []) ⌝ }
+    ensures { λ r. ⌜ r ≡ cueOrder blocks bad equal count ⌝ }
 {
     if blocks > 0 {
         return 21;

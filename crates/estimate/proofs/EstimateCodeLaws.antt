@@ -32,9 +32,13 @@ module _ (ch n : ℕ) where
   unfolding firstDue
   length-10 h = rw (lt-ltb n 2 h)
 
-  pub length-13 : (x y : ℕ) → 2 ≤ n → x ≡ adpcmBytes n → y ≡ sizeLimit ch → y < x → 13 ≡ byLength ch n
+  large-long : sizeLimit ch < adpcmBytes n → 2 ≤ n
+  unfolding adpcmBytes
+  large-long h = by-cases (eqb ch 2) (λ q. let k = rw q at h in omega arith) (λ q. let k = rw q at h in omega arith)
+
+  pub length-13 : (x y : ℕ) → x ≡ adpcmBytes n → y ≡ sizeLimit ch → y < x → 13 ≡ byLength ch n
   unfolding firstDue
-  length-13 x y s ex ey h = rw (le-ltb n 2 s, lt-ltb (sizeLimit ch) (adpcmBytes n) (rw (ex, ey) at h))
+  length-13 x y ex ey h = let k = rw (ex, ey) at h in rw (le-ltb n 2 (large-long k), lt-ltb (sizeLimit ch) (adpcmBytes n) k)
 
   pub length-fine : (x y : ℕ) → 2 ≤ n → x ≡ adpcmBytes n → y ≡ sizeLimit ch → x ≤ y → 0 ≡ byLength ch n
   unfolding firstDue

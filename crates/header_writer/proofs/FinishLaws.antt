@@ -113,9 +113,17 @@ module _ (w : HpsWriter) (lent : List ℕ) (g : Good w) (r : ℕ) (e : r ≡ fin
   abbrev Leaves : Finished → List ℕ → Type 0
   Leaves q l = (q ≡ finished (finishOf w lent)) × ((l ≡ finishOf w lent .lent) × Good (q .writer))
 
-  pub finish-refused : (q : Finished) → q ≡ record { reply = Refused r; places = replicate 3 noPlace; writer = w } → (r ≡ 0 → ⊥) → Leaves q lent
-  unfolding finishOf
-  finish-refused q eq h = rw (eq, ← e, ne-eqb r 0 h) (refl, (refl, g))
+  module _ (h : r ≡ 0 → ⊥) where
+    pub refused-lent : lent ≡ finishOf w lent .lent
+    unfolding finishOf
+    refused-lent = rw (← e, ne-eqb r 0 h)
+
+    pub refused-answer : (q : Finished) → q ≡ record { reply = Refused r; places = replicate 3 noPlace; writer = w } → q ≡ finished (finishOf w lent)
+    unfolding finishOf
+    refused-answer q eq = rw (eq, ← e, ne-eqb r 0 h)
+
+    pub refused-good : (q : Finished) → q ≡ record { reply = Refused r; places = replicate 3 noPlace; writer = w } → Good (q .writer)
+    refused-good q eq = rw eq g
 
   module _ (z : r ≡ 0) where
     pub sum-fits : (0 < w .sum) × (w .sum ≤ 4294967296)

@@ -1,7 +1,7 @@
 use mathlib.Core.Path.{_≡_, refl}
 use lib.ListN.{length}
 use Rattle.writer.specs.Calls.{headerOf, afterFinish}
-use Rattle.header_writer.proofs.FinishLaws.{finish-refused, sum-fits, room, finish-accepted}
+use Rattle.header_writer.proofs.FinishLaws.{refused-answer, refused-lent, refused-good, sum-fits, room, finish-accepted}
 use borrow.Author.Needs.{needs}
 use Rattle.header_writer.proofs.finish.finish.Statement.{statement}
 use Rattle.header_writer.proofs.finish.finish.Tie as tie
@@ -13,10 +13,7 @@ refused-requires : tie.Need-refused-requires
 refused-requires c κs = search needs
 
 returns : tie.Need-returns
-returns c =
-    let d = c .before .before in
-    let s = d .before .before in
-    finish-refused (s .args .w) (s .args .lent .now) (s .pre) _ (d .finish-due .ensures) _ (c .refused .ensures) (c .before .if1 .taken)
+returns c = (search (refused-answer, needs), (search (refused-lent, needs), search (refused-good, needs)))
 
 header-requires : tie.Need-header-requires
 header-requires c κs =

@@ -4,7 +4,7 @@ use mathlib.Core.Path.{_≡_, refl, ap, _∙_}
 use mathlib.Core.Bool.{Bool, true, false, not}
 use mathlib.Core.List.{List, [], _∷_, map}
 use native.Mathlib.Omega.{arith}
-use lib.ListN.{length, drop, getD, replicate}
+use lib.ListN.{length, replicate}
 use lib.Dec.{leb, eqb}
 use lib.IntN.{ℤ, pos, negsuc}
 use mir.Syntax.{w16}
@@ -19,10 +19,9 @@ use Rattle.layout.specs.Refusals.{firstDue}
 use Rattle.layout.specs.declared.FrameContext.{FrameContext}
 use Rattle.layout.proofs.Cases.{or-false}
 use Rattle.writer.specs.Loading.{Side, Call, cue, push, finish, accepted, rangeLength, lengthOf, lexLt, before, has, insert, points, pointsOf, bytesOf, sameZ, pushRefusal, filled, second, headerFor}
-use Rattle.writer.specs.Typed.{TypedCue, TypedBlock, TypedSide, TypedPush, Typed}
+use Rattle.writer.specs.Typed.{TypedBlock, TypedSide, Typed}
 use Rattle.writer.specs.Calls.{beginOf}
 use Rattle.writer.specs.declared.Looping.the-variants.{Auto}
-use Rattle.writer.specs.declared.Cue.{Cue}
 use Rattle.writer.specs.declared.ChannelBlock.{ChannelBlock}
 use Rattle.power_cut.specs.LoadingBook.{Book, begun, baseOf, endOfBlocks, lastPushed, takes, enters, bookRun, loopBlock}
 use Rattle.power_cut.specs.FinishedFile.{nextOf, blocksBytes, fileHeader, fileBytes}
@@ -129,11 +128,7 @@ record Computes (n ch : ℕ) (cs : List Call) (bytes lengths : List ℕ) (writte
   cues : points (bookRun (begun n ch Auto) cs .cues) ≡ written
 
 computes : Computes 300 1 worked file (16 ∷ []) 1 × Computes 420 2 recorded files.stereo (16 ∷ 16 ∷ []) 7
-unfolding filter any sum concat same firstIndex be16 be32 beZ16 P contextBytes channelBytes noChannel fileHeaderBytes headerBytes cueBytes fillers padded sizeOf
-
-unfolding blockHeader blockBytes adpcmBytes adpcmSamples firstDue lexLt before has insert points pointsOf bytesOf sameZ pushRefusal filled second
-
-unfolding headerFor beginOf baseOf endOfBlocks lastPushed takes enters bookRun loopBlock nextOf blocksBytes fileHeader fileBytes
+unfolding filter any sum concat same firstIndex be16 be32 beZ16 P contextBytes channelBytes noChannel fileHeaderBytes headerBytes cueBytes fillers padded sizeOf blockHeader blockBytes adpcmBytes adpcmSamples firstDue lexLt before has insert points pointsOf bytesOf sameZ pushRefusal filled second headerFor beginOf baseOf endOfBlocks lastPushed takes enters bookRun loopBlock nextOf blocksBytes fileHeader fileBytes
 computes = (
   record { begins = refl; typed = refl; done = refl; file = refl; end = refl; blocks = refl; cues = refl },
   record { begins = refl; typed = refl; done = refl; file = refl; end = refl; blocks = refl; cues = refl },

@@ -1,7 +1,7 @@
 -- The consequences, from the statements alone: nothing here looks behind them.
 use Prim.Native.Nat.{ℕ, zero, suc, _+_, _-_, _<_, _≤_}
 use mathlib.Core.Path.{_≡_, refl, ap, sym, _∙_}
-use mathlib.Core.Bool.{true, false}
+use mathlib.Core.Bool.{true}
 use mathlib.Core.List.{List, [], _∷_, _++_}
 use mathlib.Core.Logic.{inl, inr}
 use native.Mathlib.Omega.{arith}
@@ -9,17 +9,16 @@ use lib.ListN.{length, drop, getD, List·getD-append}
 use lib.Dec.{eqb, ltb}
 use lib.Seq.{drop-append-seam, getD-append-seam, getD-append-add, getD-drop}
 use borrow.Author.Tests.{eqb-true, eqb-false, ltb-true, ltb-false, le-leb, lt-leb, le-ltb}
-use Rattle.layout.specs.Lists.{All, none, more}
+use Rattle.layout.specs.Lists.{All, more}
 use Rattle.layout.specs.Refusals.{firstDue}
 use Rattle.layout.proofs.Cases.{by-cases}
 use Rattle.reader.specs.CuesReadBack.{CueAnswer}
 use Rattle.writer.specs.Loading.{Call, Answer, accepted, refused, answerBy}
-use Rattle.writer.specs.Calls.{Good}
 use Rattle.writer.specs.declared.HpsWriter.{HpsWriter}
-use Rattle.power_cut.specs.LoadingBook.{Block, Book, begun, endOfBlocks, numberDue, bookAnswer, bookAfter, bookAnswers, bookRun, blockOf, remainingOf, cuesOf}
+use Rattle.power_cut.specs.LoadingBook.{Book, begun, endOfBlocks, numberDue, bookAnswer, bookAfter, bookAnswers, bookRun, blockOf, remainingOf, cuesOf}
 use Rattle.power_cut.specs.FinishedFile.{fileBytes}
-use Rattle.power_cut.specs.PowerCut.{opens, step, recordsOf, answersOf, AfterCut, Run, ReadsAs, PowerCut, FileIn, FinishedFile, EstimateBound}
-use Rattle.power_cut.specs.Consequences.{WholeList, begunOf, bookUpTo, bookOf, listWrites, CutOf, answersTo, Finished, finishedRecord}
+use Rattle.power_cut.specs.PowerCut.{opens, step, recordsOf, AfterCut, Run, ReadsAs, PowerCut, FinishedFile, EstimateBound}
+use Rattle.power_cut.specs.Consequences.{WholeList, begunOf, bookUpTo, bookOf, listWrites, CutOf, answersTo, Finished}
 use Rattle.power_cut.specs.Consequences.{SameLength, BeforeBegin, NotFinished, WriteToCome, NoOtherAnswer}
 use Rattle.power_cut.specs.Consequences.{MostChannels, Begins, BegunGood, EachGood, OneAnswerEach, EachAnswer, FinishedLength}
 use Rattle.power_cut.specs.Consequences.{FinishedOpens, EachBlockBack, NoBlockBack, EachRemaining, EachCueBack, CuesEnd, EachByte, EstimateEnough}

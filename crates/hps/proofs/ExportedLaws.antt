@@ -1,13 +1,20 @@
 -- The exported calls' answers, from what the calls below them return.
-use Prim.Native.Nat.{ℕ, _≤_, _<_}
-use mathlib.Core.Path.{_≡_, refl, sym, _∙_}
+use Prim.Native.Nat.{ℕ, suc, _≤_, _<_}
+use mathlib.Core.Path.{_≡_, refl, sym, ap, _∙_}
+use mathlib.Core.Bool.{Bool, true, false}
 use mathlib.Core.List.{List}
 use native.Mathlib.Omega.{arith}
 use lib.ListN.{length}
+use lib.Dec.{eqb}
 use borrow.Author.Tests.{lt-ltb, le-ltb, le-leb, eq-eqb, ne-eqb}
+use Rattle.layout.proofs.Cases.{by-cases}
+use Rattle.layout.specs.Choice.{pick}
 use Rattle.layout.specs.Puts.{putAt}
 use Rattle.writer.specs.Loading.{Answer, accepted, refused}
-use Rattle.kept_loading.specs.KeptLoading.{numberOf}
+use Rattle.kept_loading.specs.KeptLoading.{numberOf, noCall, onKept, givenAfter}
+use Rattle.kept_loading.specs.declared.KeptCall.{KeptCall}
+use Rattle.kept_writer.specs.KeptWriter.{streamIn}
+use Rattle.writer.specs.Calls.{Outcome}
 use Rattle.estimate.specs.EstimateAnswers.{estimateReply}
 use Rattle.estimate.specs.declared.EstimateReply.{EstimateReply}
 use Rattle.reader.specs.OpeningAndReading.{Opened, blockRead, Remaining}
@@ -17,7 +24,7 @@ use Rattle.listing.specs.MarkingKey.{listingLines, linesFrom}
 use Rattle.listing.specs.Filling.{FilledIs, linesFitting}
 use Rattle.listing.specs.declared.Stage.{Stage}
 use Rattle.listing.specs.declared.listing.Line.{Line}
-use Rattle.hps.specs.Exported.{givenAfter, lengthAfter, openNumber, keptAfter, onRecord, BlockLent, blockLent, addressesAfter}
+use Rattle.hps.specs.Exported.{lengthAfter, openNumber, keptAfter, onRecord, BlockLent, blockLent, addressesAfter, pushNumber}
 
 -- ---- The estimate
 
@@ -44,10 +51,10 @@ estimate-given (accepted m) q n before e f = cc
 
 module _ (kept s : List ℕ) (o : Opened) where
   module _ (h : length kept < 2184) where
-    pub no-room : 14 ≡ openNumber (length kept) o
+    pub no-room : 252 ≡ openNumber (length kept) o
     no-room = of o
       where
-        of : (o : Opened) → 14 ≡ openNumber (length kept) o
+        of : (o : Opened) → 252 ≡ openNumber (length kept) o
         of (Opened.refused n) = rw (lt-ltb (length kept) 2184 h)
         of (Opened.opened r) = rw (lt-ltb (length kept) 2184 h)
 
@@ -89,15 +96,34 @@ module _ (r : HpsReader) where
 
 -- ---- The listing
 
-pub listed : {s : List ℕ} {r : HpsReader} {stage : Stage} {before after : List ℕ} {q : Line} → FilledIs s r stage before after q → linesFrom s r stage ≡ listingLines s
-    → (q .length ≡ length (linesFitting (length before) (listingLines s))) × (after ≡ putAt before 0 (linesFitting (length before) (listingLines s)))
-listed f e = rw (← e) (f .long, f .put)
+module _ {s : List ℕ} {r : HpsReader} {stage : Stage} {before after : List ℕ} {q : Line} (f : FilledIs s r stage before after q) (e : linesFrom s r stage ≡ listingLines s) where
+  pub listed-long : q .length ≡ length (linesFitting (length before) (listingLines s))
+  listed-long = rw (← e) (f .long)
+
+  pub listed-put : after ≡ putAt before 0 (linesFitting (length before) (listingLines s))
+  listed-put = rw (← e) (f .put)
 
 -- ---- Loading calls
 
-module _ (n : ℕ) (before x : ℕ) where
-  pub given : n ≡ 0 → x ≡ givenAfter n before x
-  given e = rw (eq-eqb n 0 e)
+module _ {A : Type 0} (n : ℕ) (before x : A) where
+  pub given : n ≡ 0 → {y : A} → y ≡ x → y ≡ givenAfter n before x
+  given e f = rw (eq-eqb n 0 e) f
 
   pub left : (n ≡ 0 → ⊥) → before ≡ givenAfter n before x
   left h = rw (ne-eqb n 0 h)
+
+-- an accepted call is past a refusal
+pub past : (q : KeptCall) → q .number ≡ 0 → (b : Bool) (n : ℕ) {x : KeptCall} → q ≡ pick b (noCall (suc n)) x → q ≡ x
+past q z true n e = absurd (let f : q .number ≡ suc n = ap (λ (y : KeptCall). y .number) e in omega arith)
+past q z false n e = e
+
+-- push's number, where the sides are long enough and where one is not
+module _ (kept : List ℕ) (o : Outcome) where
+  pub long-sides : (short : Bool) → short ≡ false → onKept kept o .number ≡ pushNumber kept short o
+  long-sides short e = rw e (by-cases (eqb (streamIn kept .slot) 0) (λ t. rw t) (λ t. rw t))
+
+  pub short-side : (short : Bool) → short ≡ true → {n : ℕ} → n ≡ pick (eqb (streamIn kept .slot) 0) 254 251 → (n ≡ pushNumber kept short o) × (n ≡ 0 → ⊥)
+  short-side short e {n} f = (rw e f, by-cases (eqb (streamIn kept .slot) 0) (λ t. not-0 253 (rw t at f)) (λ t. not-0 250 (rw t at f)))
+    where
+      not-0 : (m : ℕ) → n ≡ suc m → n ≡ 0 → ⊥
+      not-0 m g z = omega arith

@@ -1,5 +1,6 @@
 -- What the exported calls give: a number, and what the lent numbers and bytes hold after it.
 use Prim.Native.Nat.{ℕ, _+_}
+use mathlib.Core.Bool.{Bool}
 use mathlib.Core.List.{List}
 use lib.ListN.{length}
 use lib.Dec.{ltb, eqb}
@@ -7,12 +8,11 @@ use lib.IntN.{ℤ}
 use Rattle.layout.specs.Choice.{pick}
 use Rattle.layout.specs.Puts.{putAt}
 use Rattle.writer.specs.Loading.{Answer, accepted, refused}
-use Rattle.writer.specs.Calls.{beginOf, cueOf}
-use Rattle.writer.specs.declared.HpsWriter.{HpsWriter}
-use Rattle.kept_sides.specs.KeptSides.{kindOf}
-use Rattle.kept_writer.specs.KeptWriter.{loaderSize, modeOf, writerIn}
-use Rattle.kept_loading.specs.KeptLoading.{callOf, whereRoom, onKept, recordAfter, recordBegun}
-use Rattle.kept_loading.specs.declared.KeptCall.{KeptCall}
+use Rattle.writer.specs.Calls.{Outcome, cueOf, pushOf}
+use Rattle.push_due.specs.PushDue.{pushArgs}
+use Rattle.kept_sides.specs.KeptSides.{sideIn, kindOf}
+use Rattle.kept_writer.specs.KeptWriter.{streamIn, writerIn}
+use Rattle.kept_loading.specs.KeptLoading.{numberOf, onKept}
 use Rattle.reader.specs.OpeningAndReading.{Opened, BlockAnswer, Remaining}
 use Rattle.reader.specs.declared.HpsReader.{HpsReader}
 use Rattle.kept_reader.specs.KeptReader.{openedSize, openedBytes}
@@ -26,10 +26,10 @@ lengthAfter before (accepted m) = m
 
 -- ---- Opening
 
--- 14 where the lent bytes are too few for a record, else the opening's refusal or 0.
+-- 252 where the lent bytes are too few for a record, else the opening's refusal or 0.
 abbrev pub openNumber : (room : ℕ) → Opened → ℕ
-openNumber room (Opened.refused n) = pick (ltb room openedSize) 14 n
-openNumber room (Opened.opened r) = pick (ltb room openedSize) 14 0
+openNumber room (Opened.refused n) = pick (ltb room openedSize) 252 n
+openNumber room (Opened.opened r) = pick (ltb room openedSize) 252 0
 
 -- The lent bytes after an opening of this slot: the record where there is one and room for it, else as they were.
 abbrev pub keptAfter : (kept slot : List ℕ) → Opened → List ℕ
@@ -78,34 +78,22 @@ abbrev pub addressesAfter : HpsReader → (before : ℕ) → Remaining → ℕ
 addressesAfter r before (Remaining.refused n) = before
 addressesAfter r before (Remaining.addresses n) = pick (eqb (r .count) 0) before n
 
--- ---- Loading calls
+-- ---- Cue
 
--- A lent number after a call with this number: what it gives where it is accepted, else as it was.
-abbrev pub givenAfter : (number before given : ℕ) → ℕ
-givenAfter n before x = pick (eqb n 0) x before
+-- A cue of these arguments on the record that the bytes hold.
+abbrev pub cueOn : (kept : List ℕ) (start kind range name : ℕ) → Outcome
+cueOn kept start kind range name = cueOf (writerIn kept) (record { start = start; kind = kindOf kind range; name = name })
 
--- No such mode or kind.
-abbrev pub noKind : KeptCall
-noKind = record { number = 253; offset = 0; length = 0 }
+-- Its number: 253 where there is no such kind, then 254 where the bytes hold no record.
+abbrev pub cueNumber : (kept : List ℕ) (kind : ℕ) → Outcome → ℕ
+cueNumber kept kind o = pick (ltb 2 kind) 253 (onKept kept o .number)
 
--- Begin: 253 where there is no such mode.
-abbrev pub beginCall : (slot channels mode : ℕ) (kept lent : List ℕ) → KeptCall
-beginCall n ch mode kept lent = pick (ltb 2 mode) noKind (whereRoom kept (callOf (beginOf n ch (modeOf mode) lent)))
+-- ---- Push
 
--- The lent buffer after begin.
-abbrev pub beginLent : (slot channels mode : ℕ) (kept lent : List ℕ) → List ℕ
-beginLent n ch mode kept lent = pick (ltb 2 mode) lent (pick (ltb (length kept) loaderSize) lent (beginOf n ch (modeOf mode) lent .lent))
+-- A push of these arguments on the record that the bytes hold.
+abbrev pub pushOn : (kept : List ℕ) (channels : ℕ) (left leftData right rightData : List ℕ) (last : Bool) (lent : List ℕ) → Outcome
+pushOn kept ch l ld r rd last lent = pushOf (writerIn kept) (pushArgs ch (sideIn l 0) (sideIn r 0) ld rd last) lent
 
--- The record that the bytes hold after begin.
-abbrev pub beginRecord : (slot channels mode : ℕ) (kept lent : List ℕ) → HpsWriter
-beginRecord n ch mode kept lent = pick (ltb 2 mode) (writerIn kept) (recordBegun kept (beginOf n ch (modeOf mode) lent))
-
--- Cue's number: 253 where there is no such kind.
-abbrev pub cueNumber : (kept : List ℕ) (start kind range name : ℕ) → ℕ
-cueNumber kept start kind range name =
-    pick (ltb 2 kind) 253 (onKept kept (cueOf (writerIn kept) (record { start = start; kind = kindOf kind range; name = name })) .number)
-
--- The record after it: as it was where there is no such kind.
-abbrev pub cueRecord : (kept : List ℕ) (start kind range name : ℕ) → HpsWriter
-cueRecord kept start kind range name =
-    pick (ltb 2 kind) (writerIn kept) (recordAfter kept (cueOf (writerIn kept) (record { start = start; kind = kindOf kind range; name = name })))
+-- Its number: 254 where the bytes hold no record, then 251 where a side is too short, then push's own.
+abbrev pub pushNumber : (kept : List ℕ) (short : Bool) → Outcome → ℕ
+pushNumber kept short o = pick (eqb (streamIn kept .slot) 0) 254 (pick short 251 (numberOf (o .answer)))

@@ -8,4 +8,8 @@ pub const END: u32 = kept_reader::END;
 // The lent bytes are no record.
 pub const NO_RECORD: u32 = kept_reader::NO_RECORD;
 // A looping mode or a kind of cue that there is not.
-pub const NO_KIND: u32 = 253;
+pub const NO_KIND: u32 = kept_reader::NO_KIND;
+// The bytes lent for a record or a cursor are too few for it.
+pub const NO_ROOM: u32 = kept_reader::NO_ROOM;
+// A side of a channel of the push has too few bytes.
+pub const NO_SIDE: u32 = kept_reader::NO_SIDE;

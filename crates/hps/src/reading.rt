@@ -1,7 +1,8 @@
-// The reading calls and the listing. A call gives 0, a refusal's number, END or NO_RECORD; only with 0 are the numbers that it gives set, but for the position of
-// a block read (also with 1) and what cue calls give (also with 1 and END).
+// The reading calls and the listing. A call gives 0, a refusal's number, END, NO_RECORD or NO_ROOM; only with 0 are the numbers that it gives set, but for the
+// position of a block read (also with 1) and what cue calls give (also with END).
 use crate::END;
 use crate::NO_RECORD;
+use crate::NO_ROOM;
 use block_reader::blocks::BlockReply;
 use block_reader::blocks::read_block;
 use kept_cues::cue_calls;
@@ -33,7 +34,7 @@ pub extern "C" fn hps_open(slot: &[u8], kept: &mut [u8]) -> u32
     ensures { λ _. ⌜ now (kept .exit) ≡ keptAfter (now (kept .entry)) (now (slot .entry)) (opening (now (slot .entry))) ⌝ }
 {
     if kept.len() < OPENED_SIZE {
-        return 14;
+        return NO_ROOM;
     }
     let call = open(slot);
     let reply = call.reply;
@@ -128,7 +129,8 @@ pub extern "C" fn hps_remaining(
     }
 }
 
-// Cue calls from a cursor on, until out is full, the cues end or one is refused; how many cues were given, and the cursor after them.
+// Cue calls from a cursor on, until out is full, the cues end or one is refused; how many cues were given, and the cursor after them. A refusal that comes after
+// cues is left to the next call.
 #[no_mangle]
 pub extern "C" fn hps_cues(
     slot: &[u8],

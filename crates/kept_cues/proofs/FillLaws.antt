@@ -1,5 +1,5 @@
 -- As many cue calls as there is room for: the loop's invariant, and what each way out of it gives.
-use Prim.Native.Nat.{ℕ, suc, _+_, _*_, _-_, _/_, _≤_, _<_}
+use Prim.Native.Nat.{ℕ, zero, suc, _+_, _*_, _-_, _/_, _≤_, _<_}
 use mathlib.Core.Path.{_≡_, refl, sym, ap, _∙_}
 use mathlib.Core.Bool.{Bool}
 use mathlib.Core.List.{List, [], _∷_, _++_, append-assoc, append-nil}
@@ -55,6 +55,18 @@ ahead-none g = let e : 0 + g .count ≡ g .count = omega arith in rw e
 
 ahead-ahead : (m : ℕ) (bs cs : List ℕ) (g : CuesGiven) → ahead m bs (ahead 1 cs g) ≡ ahead (m + 1) (bs ++ cs) g
 ahead-ahead m bs cs g = rw (add-assoc, append-assoc)
+
+-- calls that give no cue give no bytes
+pub none-given : (s : List ℕ) (r : HpsReader) (room : ℕ) (c : CueIterator) → cuesFrom s r room c .count ≡ 0 → cuesFrom s r room c .bytes ≡ []
+unfolding cuesFrom
+none-given s r zero c z = refl
+none-given s r (suc n) c z = of (cueStep s r c .answer) (cueStep s r c .after) (cuesFrom s r n (cueStep s r c .after)) z
+  where
+    of : (a : CueAnswer) (after : CueIterator) (rest : CuesGiven) → oneCue a after rest .count ≡ 0 → oneCue a after rest .bytes ≡ []
+    of (CueAnswer.refused k) after rest z = refl
+    of CueAnswer.ended after rest z = refl
+    of (CueAnswer.loop b) after rest z = absurd (omega arith)
+    of (CueAnswer.point b k) after rest z = absurd (omega arith)
 
 -- ---- The loop
 

@@ -1,11 +1,11 @@
 -- Cue calls one after the other on a kept record: the cursor in bytes, and what as many calls as there is room for give.
 use Prim.Native.Nat.{ℕ, zero, suc, _+_, _/_, _^_, _≤_, _<_}
 use mathlib.Core.Path.{_≡_}
-use mathlib.Core.Bool.{true}
+use mathlib.Core.Bool.{Bool, true}
 use mathlib.Core.List.{List, [], _++_}
 use lib.ListN.{length, replicate}
 use lib.Dec.{ltb, eqb}
-use Rattle.layout.specs.Choice.{pick, _and_}
+use Rattle.layout.specs.Choice.{pick, _and_, _or_}
 use Rattle.layout.specs.Puts.{putAt}
 use Rattle.layout.specs.Records.{be32}
 use Rattle.reader.specs.declared.HpsReader.{HpsReader}
@@ -90,14 +90,26 @@ pub record CuesLent : Type 0 where
 unfoldable pub cuesOn : (slot kept : List ℕ) → CuesLent → CuesGiven
 cuesOn s kept b = cuesFrom s (readerIn kept) (length (b .out) / 16) (cursorIn (readerIn kept) (b .cursor))
 
--- Their number: 14 where the cursor's bytes are fewer than 32, 254 where the kept bytes hold no record.
-unfoldable pub cuesNumber : (slot kept : List ℕ) → CuesLent → ℕ
-cuesNumber s kept b = pick (ltb (length (b .cursor)) 32) 14 (pick (eqb (readerIn kept .count) 0) 254 (cuesOn s kept b .number))
+-- The number of calls of which the last gave this one, after so many cues: a refusal that comes after cues is left to the calls from the cursor after them.
+unfoldable pub numberAfter : (cues number : ℕ) → ℕ
+numberAfter k n = pick (eqb k 0) n (pick (eqb n 255) 255 0)
 
--- What is lent after them: with 14 and 254 as it was; else the cursor after the cues, the cues one after the other from the start, the rest as it was, and
--- how many. So it is with every other number: cues that were given before a call that was refused are there.
+-- Their number: 252 where the cursor's bytes are fewer than 32, 254 where the kept bytes hold no record, 14 where there is room for no cue.
+unfoldable pub cuesNumber : (slot kept : List ℕ) → CuesLent → ℕ
+cuesNumber s kept b =
+    pick (ltb (length (b .cursor)) 32) 252
+    (pick (eqb (readerIn kept .count) 0) 254
+    (pick (ltb (length (b .out)) 16) 14
+    (numberAfter (cuesOn s kept b .count) (cuesOn s kept b .number))))
+
+-- Whether calls with this number give cues: with 0, and with 255, where there may be none before the end.
+abbrev pub givesCues : (number : ℕ) → Bool
+givesCues n = eqb n 0 or eqb n 255
+
+-- What is lent after them: the cursor after the cues, the cues one after the other from the start, the rest as it was, and how many. With a number that gives no cues,
+-- 1 among them, all is as it was.
 unfoldable pub cuesLent : (slot kept : List ℕ) → CuesLent → CuesLent
 cuesLent s kept b =
-    pick (ltb (length (b .cursor)) 32) b
-    (pick (eqb (readerIn kept .count) 0) b
-    (record { cursor = putAt (b .cursor) 0 (cursorBytes (cuesOn s kept b .after)); out = putAt (b .out) 0 (cuesOn s kept b .bytes); cues = cuesOn s kept b .count }))
+    pick (givesCues (cuesNumber s kept b))
+    (record { cursor = putAt (b .cursor) 0 (cursorBytes (cuesOn s kept b .after)); out = putAt (b .out) 0 (cuesOn s kept b .bytes); cues = cuesOn s kept b .count })
+    b

@@ -2,7 +2,9 @@
 use cue_bytes::put_reply;
 use cue_reader::cue_from;
 use cue_starts::first_cursor;
+use kept_reader::END;
 use kept_reader::NO_RECORD;
+use kept_reader::NO_ROOM;
 use kept_reader::fields::long;
 use kept_reader::fields::put_long;
 use kept_reader::fields::word;
@@ -20,7 +22,7 @@ ghost use Rattle.layout.specs.Puts.{putAt};
 ghost use Rattle.reader.specs.declared.HpsReader.{HpsReader};
 ghost use Rattle.reader.specs.CuesReadBack.{cursor};
 ghost use Rattle.cue_reader.specs.CueAnswers.{PartsOf};
-ghost use Rattle.kept_cues.specs.KeptCues.{cursorIn, CursorBack, putCursor, filledOf, cuesFrom, givenOf, CuesLent, cuesNumber, cuesLent};
+ghost use Rattle.kept_cues.specs.KeptCues.{cursorIn, CursorBack, putCursor, filledOf, cuesFrom, givenOf, CuesLent, numberAfter, cuesNumber, givesCues, cuesLent};
 
 const CURSOR_SIZE: usize = 32;
 
@@ -124,6 +126,26 @@ fn fill_cues(
     filled(0, cues, block, place, base, due)
 }
 
+// The number of calls of which the last gave this one, after so many cues: a refusal that comes after cues is left to the next call.
+fn number_after(cues: usize, number: u32) -> u32
+    ensures { λ n. ⌜ n ≡ numberAfter cues number ⌝ }
+{
+    if cues == 0 {
+        return number;
+    }
+    if number == END { END } else { 0 }
+}
+
+// Whether calls with this number give cues; with every other number what was lent is left.
+fn gives(number: u32) -> bool
+    ensures { λ b. ⌜ b ≡ givesCues number ⌝ }
+{
+    if number == 0 {
+        return true;
+    }
+    number == END
+}
+
 // Cue calls from a cursor on, until out is full, the cues end or one is refused; how many cues were given, and the cursor after them.
 pub fn cue_calls(
     slot: &[u8],
@@ -137,11 +159,14 @@ pub fn cue_calls(
         (cuesLent (now (slot .entry)) (now (kept .entry)) (record { cursor = now (cursor .entry); out = now (out .entry); cues = now (cues .entry) })) ⌝ }
 {
     if cursor.len() < CURSOR_SIZE {
-        return 14;
+        return NO_ROOM;
     }
     let r = reader_in(kept, 0, BLOCK_LIMIT);
     if r.count == 0 {
         return NO_RECORD;
+    }
+    if out.len() < CUE_SIZE {
+        return 14;
     }
     let c = cursor_in(cursor, r);
     let start = r.loop_start;
@@ -149,8 +174,11 @@ pub fn cue_calls(
     let format = left.format;
     let offsets = r.offsets;
     let filled = fill_cues(slot, &offsets, r.blocks, start, format, c, out);
-    let after = filled.cursor;
-    put_cursor(cursor, after);
-    *cues = filled.cues;
-    filled.number
+    let number = number_after(filled.cues, filled.number);
+    if gives(number) {
+        let after = filled.cursor;
+        put_cursor(cursor, after);
+        *cues = filled.cues;
+    }
+    number
 }

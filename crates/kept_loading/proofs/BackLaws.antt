@@ -11,7 +11,7 @@ use mir.Syntax.{w16}
 use mir.Val.{SFits}
 use denote.Array.{each}
 use borrow.Author.Tests.{ne-eqb, eqb-true, le-leb}
-use Rattle.layout.specs.Choice.{pick, _and_}
+use Rattle.layout.specs.Choice.{_and_}
 use Rattle.layout.specs.Lists.{All, concat}
 use Rattle.layout.specs.Puts.{putAt}
 use Rattle.layout.specs.Records.{be16, be32, beZ16, contextBytes}
@@ -23,7 +23,7 @@ use Rattle.writer.specs.Typed.{TypedBlock}
 use Rattle.writer.specs.Loading.{noBlock, beginRefusal, finishRefusal}
 use Rattle.writer.specs.Calls.{replyOf, emptyOf, beginOf, afterFinish, finishOf, Good}
 use Rattle.writer.proofs.GoodLaws.{empty-good, finish-good}
-use Rattle.writer.specs.declared.Reply.the-variants.{Refused, Accepted}
+use Rattle.writer.specs.declared.Reply.the-variants.{Accepted}
 use Rattle.writer.specs.declared.ChannelBlock.{ChannelBlock}
 use Rattle.writer.specs.declared.Cue.{Cue}
 use Rattle.writer.specs.declared.Looping.{Looping}
@@ -43,7 +43,6 @@ use Rattle.kept_puts.proofs.SameLaws.{same-before, same-after}
 use Rattle.kept_puts.proofs.ThereLaws.{put-there}
 use Rattle.kept_record.specs.KeptRecord.{sideBytes, recordBytes}
 use Rattle.kept_record.proofs.RecordLaws.{side-length}
-use Rattle.kept_loading.specs.KeptLoading.{numberOf}
 use Rattle.kept_loading.proofs.CallLaws.{apart-replies}
 use Rattle.kept_loading.proofs.AfterLaws.{holds, good-sensible}
 
@@ -241,12 +240,6 @@ module _ (k : List ℕ) (lent : List ℕ) (n : ℕ) where
       by-cases (eqb (finishRefusal (streamIn k .finished) (streamIn k .blocks) (streamIn k .last) (length lent)) 0)
       (λ q. rw q (finish-back k h (length lent) (eqb-true _ 0 q))) (λ q. apart-replies n _ (sym (rw q at e)))
 
-  pub finish-left : replyOf (finishOf (writerIn k) lent .answer) ≡ Refused n → writerIn k ≡ finishOf (writerIn k) lent .writer
-  unfolding finishOf
-  finish-left e =
-      by-cases (eqb (finishRefusal (streamIn k .finished) (streamIn k .blocks) (streamIn k .last) (length lent)) 0)
-      (λ q. apart-replies _ n (rw q at e)) (λ q. rw q)
-
 -- ---- After begin
 
 module _ (k : List ℕ) (room : 3256 ≤ length k) (s : Stream) (t : List Cue) (g : Good (writerOf t s)) (ch : Long (s .channels)) where
@@ -293,7 +286,7 @@ module _ (k : List ℕ) (slot ch : ℕ) (mode : Looping) (lent : List ℕ) (n : 
       whole-back k room (streamOf (emptyOf slot ch mode)) (emptyOf slot ch mode .cues) (empty-good slot ch (length lent) mode z) f none-fits none-fits
 
   pub begin-after : 3256 ≤ length k → Long ch → replyOf (beginOf slot ch mode lent .answer) ≡ Accepted n
-      → writerIn (putAt k 0 (recordBytes (streamOf (beginOf slot ch mode lent .writer)))) ≡ pick (eqb (numberOf (beginOf slot ch mode lent .answer)) 0) (beginOf slot ch mode lent .writer) (writerIn k)
+      → writerIn (putAt k 0 (recordBytes (streamOf (beginOf slot ch mode lent .writer)))) ≡ beginOf slot ch mode lent .writer
   unfolding beginOf
   begin-after room f e =
       by-cases (eqb (beginRefusal slot ch (length lent)) 0) (λ q. rw q (empty-back room f (eqb-true _ 0 q))) (λ q. apart-replies n _ (sym (rw q at e)))
@@ -301,10 +294,3 @@ module _ (k : List ℕ) (slot ch : ℕ) (mode : Looping) (lent : List ℕ) (n : 
   pub begin-sixteen : (length (beginOf slot ch mode lent .writer .left .coefficients) ≡ 16) × (length (beginOf slot ch mode lent .writer .right .coefficients) ≡ 16)
   unfolding beginOf
   begin-sixteen = by-cases (eqb (beginRefusal slot ch (length lent)) 0) (λ q. rw q (refl, refl)) (λ q. rw q (refl, refl))
-
-  begin-number : replyOf (beginOf slot ch mode lent .answer) ≡ Refused n → eqb (numberOf (beginOf slot ch mode lent .answer)) 0 ≡ false
-  unfolding beginOf
-  begin-number e = by-cases (eqb (beginRefusal slot ch (length lent)) 0) (λ q. apart-replies 0 n (rw q at e)) (λ q. rw q q)
-
-  pub begin-left : replyOf (beginOf slot ch mode lent .answer) ≡ Refused n → writerIn k ≡ pick (eqb (numberOf (beginOf slot ch mode lent .answer)) 0) (beginOf slot ch mode lent .writer) (writerIn k)
-  begin-left e = rw (begin-number e)

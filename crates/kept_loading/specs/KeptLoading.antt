@@ -1,14 +1,17 @@
 -- What the loading calls on a record in lent bytes give.
-use Prim.Native.Nat.{ℕ, _<_}
-use mathlib.Core.Path.{_≡_}
+use Prim.Native.Nat.{ℕ}
 use mathlib.Core.List.{List}
 use lib.ListN.{length}
 use lib.Dec.{ltb, eqb}
 use Rattle.layout.specs.Choice.{pick}
+use Rattle.layout.specs.Puts.{putAt}
+use Rattle.layout.specs.Records.{be32}
 use Rattle.writer.specs.Loading.{Answer, accepted, refused}
 use Rattle.writer.specs.Calls.{Outcome, firstPlace}
-use Rattle.writer.specs.declared.HpsWriter.{HpsWriter}
-use Rattle.kept_writer.specs.KeptWriter.{loaderSize, streamIn, writerIn}
+use Rattle.push_plan.specs.PushPlan.{streamOf}
+use Rattle.kept_writer.specs.KeptWriter.{loaderSize, streamIn}
+use Rattle.kept_record.specs.KeptRecord.{recordBytes, pushedBytes}
+use Rattle.kept_table.specs.KeptTable.{tablePut}
 use Rattle.kept_loading.specs.declared.KeptCall.{KeptCall}
 
 -- The refusal's number, 0 where the call is accepted.
@@ -20,13 +23,17 @@ numberOf (accepted m) = 0
 abbrev pub callOf : Outcome → KeptCall
 callOf o = record { number = numberOf (o .answer); offset = firstPlace (o .places) .offset; length = firstPlace (o .places) .length }
 
--- Begin: 14 where the bytes are too few for a record.
-abbrev pub whereRoom : List ℕ → KeptCall → KeptCall
-whereRoom kept q = pick (ltb (length kept) loaderSize) (record { number = 14; offset = 0; length = 0 }) q
+-- A call that gives this number and nothing else.
+abbrev pub noCall : (number : ℕ) → KeptCall
+noCall n = record { number = n; offset = 0; length = 0 }
+
+-- Begin: 252 where the bytes are too few for a record, then 253 where there is no such mode.
+abbrev pub whereRoom : List ℕ → (mode : ℕ) → KeptCall → KeptCall
+whereRoom kept mode q = pick (ltb (length kept) loaderSize) (noCall 252) (pick (ltb 2 mode) (noCall 253) q)
 
 -- A call on the record that bytes hold: 254 where they hold none.
 abbrev pub onKept : List ℕ → Outcome → KeptCall
-onKept kept o = pick (eqb (streamIn kept .slot) 0) (record { number = 254; offset = 0; length = 0 }) (callOf o)
+onKept kept o = pick (eqb (streamIn kept .slot) 0) (noCall 254) (callOf o)
 
 -- What an accepted call gives beside its writes: finish the finished length.
 abbrev pub givenOf : Answer → ℕ
@@ -36,26 +43,26 @@ givenOf (accepted m) = m
 -- Finish on the record that bytes hold.
 abbrev pub finishedKept : List ℕ → Outcome → KeptCall
 finishedKept kept o =
-    pick (eqb (streamIn kept .slot) 0) (record { number = 254; offset = 0; length = 0 }) (record { number = numberOf (o .answer); offset = 0; length = givenOf (o .answer) })
+    pick (eqb (streamIn kept .slot) 0) (noCall 254) (record { number = numberOf (o .answer); offset = 0; length = givenOf (o .answer) })
 
--- The lent buffer after it.
-abbrev pub lentAfter : (kept lent : List ℕ) → Outcome → List ℕ
-lentAfter kept lent o = pick (eqb (streamIn kept .slot) 0) lent (o .lent)
+-- What is lent after a call with this number, and the record that lent bytes hold: what the call gives where it is accepted, else as it was.
+abbrev pub givenAfter : {A : Type 0} → (number : ℕ) → (before given : A) → A
+givenAfter n before x = pick (eqb n 0) x before
 
--- A call that gives a number other than 0 leaves what it was lent as it was.
-abbrev pub Leaves : {A : Type 0} → (number : ℕ) → (before after : A) → Type 0
-Leaves n before after = 0 < n → after ≡ before
+-- ---- The bytes of an accepted call
 
--- ---- What the bytes hold afterwards
+-- Begin puts the record's numbers and sides; its table is empty.
+abbrev pub bytesBegun : (kept : List ℕ) → Outcome → List ℕ
+bytesBegun kept o = putAt kept 0 (recordBytes (streamOf (o .writer)))
 
--- As many bytes as before.
-abbrev pub SameLength : (before after : List ℕ) → Type 0
-SameLength before after = length after ≡ length before
+-- Cue puts the table.
+abbrev pub bytesCued : (kept : List ℕ) → Outcome → List ℕ
+bytesCued kept o = tablePut kept (o .writer .cues) (o .writer .count)
 
--- The record that the bytes hold after a call on the record that they held: the one that the call gives; where they held none, as before.
-abbrev pub recordAfter : (kept : List ℕ) → Outcome → HpsWriter
-recordAfter kept o = pick (eqb (streamIn kept .slot) 0) (writerIn kept) (o .writer)
+-- Push puts the numbers, and the first one the sides.
+abbrev pub bytesPushed : (kept : List ℕ) → Outcome → List ℕ
+bytesPushed kept o = putAt kept 0 (pushedBytes (streamOf (o .writer)))
 
--- The same after begin: the new record where begin is accepted and there is room for it, else as before.
-abbrev pub recordBegun : (kept : List ℕ) → Outcome → HpsWriter
-recordBegun kept o = pick (eqb (whereRoom kept (callOf o) .number) 0) (o .writer) (writerIn kept)
+-- Finish puts the mark of a finished stream.
+abbrev pub bytesFinished : (kept : List ℕ) → List ℕ
+bytesFinished kept = putAt kept 84 (be32 1)

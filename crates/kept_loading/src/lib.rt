@@ -4,23 +4,21 @@ use cue_writer::cue;
 use header_writer::finish::finish;
 use kept_puts::put_finished;
 use kept_puts::put_numbers;
+use kept_reader::NO_KIND;
 use kept_reader::NO_RECORD;
+use kept_reader::NO_ROOM;
 use kept_record::put_sides;
 use kept_table::put_table;
 use kept_writer::loader::LOADER_SIZE;
+use kept_writer::loader::mode_of;
 use kept_writer::loader::writer_in;
 use writer::Cue;
-use writer::Looping;
 use writer::Reply;
 use writer::begin;
 ghost use mathlib.Core.Path.{_≡_};
-ghost use Prim.Native.Nat.{_<_};
-ghost use lib.ListN.{length};
-ghost use lib.Dec.{ltb};
-ghost use Rattle.layout.specs.Choice.{pick};
 ghost use Rattle.writer.specs.Calls.{beginOf, cueOf, finishOf};
-ghost use Rattle.kept_writer.specs.KeptWriter.{loaderSize, writerIn};
-ghost use Rattle.kept_loading.specs.KeptLoading.{callOf, whereRoom, onKept, finishedKept, lentAfter, Leaves, SameLength, recordAfter, recordBegun};
+ghost use Rattle.kept_writer.specs.KeptWriter.{modeOf, writerIn};
+ghost use Rattle.kept_loading.specs.KeptLoading.{noCall, callOf, whereRoom, onKept, finishedKept, givenAfter, bytesBegun, bytesCued, bytesFinished};
 
 // The number of a call, 0 where it is accepted; the place of the write that it hands out, or what else it gives.
 pub struct KeptCall {
@@ -31,7 +29,7 @@ pub struct KeptCall {
 
 // A call that gives this number and nothing else.
 pub fn refused(number: u32) -> KeptCall
-    ensures { λ q. ⌜ q ≡ record { number = number; offset = 0; length = 0 } ⌝ }
+    ensures { λ q. ⌜ q ≡ noCall number ⌝ }
 {
     KeptCall {
         number,
@@ -40,23 +38,26 @@ pub fn refused(number: u32) -> KeptCall
     }
 }
 
-// Begin: the record is kept in the lent bytes, if they are enough for it.
+// Begin: the record is kept in the lent bytes, if they are enough for it. The mode is 0 Disabled, 1 Enabled, 2 Auto.
 pub fn begin_kept(
     slot: usize,
     channels: usize,
-    mode: Looping,
+    mode: u32,
     kept: &mut [u8],
     lent: &mut [u8],
 ) -> KeptCall
-    ensures { λ q. ⌜ q ≡ whereRoom (now (kept .entry)) (callOf (beginOf slot channels mode (now (lent .entry)))) ⌝ }
-    ensures { λ _. ⌜ now (lent .exit) ≡ pick (ltb (length (now (kept .entry))) loaderSize) (now (lent .entry)) (beginOf slot channels mode (now (lent .entry)) .lent) ⌝ }
-    ensures { λ q. ⌜ Leaves (q .number) (now (kept .entry)) (now (kept .exit)) ⌝ }
-    ensures { λ _. ⌜ SameLength (now (kept .entry)) (now (kept .exit)) × (writerIn (now (kept .exit)) ≡ recordBegun (now (kept .entry)) (beginOf slot channels mode (now (lent .entry)))) ⌝ }
+    ensures { λ q. ⌜ q ≡ whereRoom (now (kept .entry)) mode (callOf (beginOf slot channels (modeOf mode) (now (lent .entry)))) ⌝ }
+    ensures { λ q. ⌜ now (lent .exit) ≡ givenAfter (q .number) (now (lent .entry)) (beginOf slot channels (modeOf mode) (now (lent .entry)) .lent) ⌝ }
+    ensures { λ q. ⌜ now (kept .exit) ≡ givenAfter (q .number) (now (kept .entry)) (bytesBegun (now (kept .entry)) (beginOf slot channels (modeOf mode) (now (lent .entry)))) ⌝ }
+    ensures { λ q. ⌜ writerIn (now (kept .exit)) ≡ givenAfter (q .number) (writerIn (now (kept .entry))) (beginOf slot channels (modeOf mode) (now (lent .entry)) .writer) ⌝ }
 {
     if kept.len() < LOADER_SIZE {
-        return refused(14);
+        return refused(NO_ROOM);
     }
-    let call = begin(slot, channels, mode, lent);
+    if mode > 2 {
+        return refused(NO_KIND);
+    }
+    let call = begin(slot, channels, mode_of(mode), lent);
     let reply = call.reply;
     let place = call.place;
     let w = call.writer;
@@ -80,8 +81,8 @@ pub fn begin_kept(
 // Cue: it hands out no write.
 pub fn cue_kept(kept: &mut [u8], c: Cue) -> KeptCall
     ensures { λ q. ⌜ q ≡ onKept (now (kept .entry)) (cueOf (writerIn (now (kept .entry))) c) ⌝ }
-    ensures { λ q. ⌜ Leaves (q .number) (now (kept .entry)) (now (kept .exit)) ⌝ }
-    ensures { λ _. ⌜ (writerIn (now (kept .exit)) ≡ recordAfter (now (kept .entry)) (cueOf (writerIn (now (kept .entry))) c)) × (length (now (kept .exit)) ≡ length (now (kept .entry))) ⌝ }
+    ensures { λ q. ⌜ now (kept .exit) ≡ givenAfter (q .number) (now (kept .entry)) (bytesCued (now (kept .entry)) (cueOf (writerIn (now (kept .entry))) c)) ⌝ }
+    ensures { λ q. ⌜ writerIn (now (kept .exit)) ≡ givenAfter (q .number) (writerIn (now (kept .entry))) (cueOf (writerIn (now (kept .entry))) c .writer) ⌝ }
 {
     let w = writer_in(kept);
     if w.slot == 0 {
@@ -103,9 +104,9 @@ pub fn cue_kept(kept: &mut [u8], c: Cue) -> KeptCall
 // Finish: gives the finished length; its three writes' bytes lie in the lent buffer one after the other.
 pub fn finish_kept(kept: &mut [u8], lent: &mut [u8]) -> KeptCall
     ensures { λ q. ⌜ q ≡ finishedKept (now (kept .entry)) (finishOf (writerIn (now (kept .entry))) (now (lent .entry))) ⌝ }
-    ensures { λ _. ⌜ now (lent .exit) ≡ lentAfter (now (kept .entry)) (now (lent .entry)) (finishOf (writerIn (now (kept .entry))) (now (lent .entry))) ⌝ }
-    ensures { λ q. ⌜ Leaves (q .number) (now (kept .entry)) (now (kept .exit)) ⌝ }
-    ensures { λ _. ⌜ SameLength (now (kept .entry)) (now (kept .exit)) × (writerIn (now (kept .exit)) ≡ recordAfter (now (kept .entry)) (finishOf (writerIn (now (kept .entry))) (now (lent .entry)))) ⌝ }
+    ensures { λ q. ⌜ now (lent .exit) ≡ givenAfter (q .number) (now (lent .entry)) (finishOf (writerIn (now (kept .entry))) (now (lent .entry)) .lent) ⌝ }
+    ensures { λ q. ⌜ now (kept .exit) ≡ givenAfter (q .number) (now (kept .entry)) (bytesFinished (now (kept .entry))) ⌝ }
+    ensures { λ q. ⌜ writerIn (now (kept .exit)) ≡ givenAfter (q .number) (writerIn (now (kept .entry))) (finishOf (writerIn (now (kept .entry))) (now (lent .entry)) .writer) ⌝ }
 {
     let w = writer_in(kept);
     if w.slot == 0 {

@@ -21,6 +21,9 @@ const FILE_SIZE: usize = 128;
 
 const SECOND_AT: usize = 72;
 
+// The bytes of 512 offsets.
+const OFFSETS_SIZE: usize = 2048;
+
 fn loop_number(start: LoopStart) -> u32
     ensures { λ n. ⌜ n ≡ loopNumber start ⌝ }
 {
@@ -30,14 +33,14 @@ fn loop_number(start: LoopStart) -> u32
     }
 }
 
-fn put_offsets(kept: &mut [u8], r: HpsReader)
-    requires { ⌜ Readable r × (2184 ≤ length (now kept)) ⌝ }
-    ensures { λ _. ⌜ now (kept .exit) ≡ putAt (now (kept .entry)) 136 (concat be32 (take (r .blocks) (r .offsets))) ⌝ }
+// The first n offsets.
+fn put_offsets(kept: &mut [u8], offsets: &[u32], n: usize)
+    requires { ⌜ (n ≤ 512) × (n ≤ length (now offsets)) × (2184 ≤ length (now kept)) ⌝ }
+    ensures { λ _. ⌜ now (kept .exit) ≡ putAt (now (kept .entry)) 136 (concat be32 (take n (now (offsets .entry)))) ⌝ }
 {
     let mut i: usize = 0;
-    while i < r.blocks {
-        let offset = r.offsets[i];
-        put_u32(kept, OFFSETS_AT + 4 * i, offset);
+    while i < n {
+        put_u32(kept, OFFSETS_AT + 4 * i, offsets[i]);
         i += 1;
     }
 }
@@ -64,5 +67,7 @@ pub fn put_opened(kept: &mut [u8], s: &[u8], r: HpsReader)
     put_u32(kept, BLOCKS_AT, (r.blocks % 4294967296) as u32);
     let start = r.loop_start;
     put_u32(kept, LOOP_AT, loop_number(start));
-    put_offsets(kept, r);
+    let offsets = r.offsets;
+    put_offsets(kept, &offsets, r.blocks);
+    put_zeros(kept, OFFSETS_AT + 4 * r.blocks, OFFSETS_SIZE - 4 * r.blocks);
 }

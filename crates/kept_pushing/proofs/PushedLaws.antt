@@ -18,14 +18,14 @@ use Rattle.layout.specs.Lists.{All}
 use Rattle.layout.specs.Puts.{putAt}
 use Rattle.layout.proofs.Cases.{by-cases}
 use Rattle.puts.proofs.PutLaws.{putAt-length}
-use Rattle.writer.specs.Loading.{Push, pushRefusal}
+use Rattle.writer.specs.Loading.{pushRefusal}
 use Rattle.writer.specs.Calls.{standingIn, takenOf, pushOf, Good}
 use Rattle.writer.proofs.GoodLaws.{push-good}
 use Rattle.writer.specs.declared.ChannelBlock.{ChannelBlock}
 use Rattle.writer.specs.declared.Cue.{Cue}
 use Rattle.push_due.specs.PushDue.{pushArgs}
 use Rattle.taking.specs.declared.Taken.{Taken}
-use Rattle.push_plan.specs.PushPlan.{writerOf, advanced}
+use Rattle.push_plan.specs.PushPlan.{streamOf, writerOf, advanced}
 use Rattle.push_plan.specs.declared.Plan.{Plan}
 use Rattle.push_plan.specs.declared.Stream.{Stream}
 use Rattle.kept_sides.specs.KeptSides.{sideIn, tableIn}
@@ -102,9 +102,11 @@ module _ (k : List ℕ) (some : streamIn k .slot ≡ 0 → ⊥) {ch : ℕ} {l r 
       (pushed-back k (holds k some .room) next (tableIn k 184 (streamIn k .count)) next-good (omega arith) first-fits later-there
       ∙ ap (λ (n : ℕ). writerOf (tableIn k 184 n) next) (is .1) ∙ after-is w z)
 
-pub push-left : (k : List ℕ) (p : Push) (lent : List ℕ) (n : ℕ) → n ≡ pushRefusal (standingIn (writerIn k)) (takenOf (writerIn k) p) p (length lent) → (n ≡ 0 → ⊥) → writerIn k ≡ pushOf (writerIn k) p lent .writer
-unfolding pushOf
-push-left k p lent n is h = rw (ne-eqb _ 0 (λ z. h (is ∙ z)))
+  pub push-stream : next ≡ streamOf (pushOf (writerIn k) (pushArgs ch l r ld rd last) lent .writer)
+  unfolding pushOf
+  push-stream =
+      let p = pushArgs ch l r ld rd last in
+      rw (eq-eqb (pushRefusal (standingIn (writerIn k)) (takenOf (writerIn k) p) p (length lent)) 0 (sym (due-is w) ∙ z)) (ap streamOf (after-is w z))
 
 -- ---- The elements of an array of i16 that is a field
 

@@ -4,6 +4,7 @@ use block_writer::push::put_data;
 use kept_loading::KeptCall;
 use kept_loading::refused;
 use kept_reader::NO_RECORD;
+use kept_reader::NO_SIDE;
 use kept_record::put_pushed;
 use kept_writer::loader::held_kept;
 use kept_writer::loader::put_taken_kept;
@@ -16,11 +17,20 @@ use writer::ChannelBlock;
 use written::put_header;
 ghost use mathlib.Core.Path.{_≡_};
 ghost use Prim.Native.Nat.{_<_};
-ghost use lib.ListN.{length};
+ghost use lib.Dec.{eqb};
+ghost use Rattle.layout.specs.Choice.{pick};
 ghost use Rattle.writer.specs.Calls.{pushOf};
 ghost use Rattle.push_due.specs.PushDue.{pushArgs};
-ghost use Rattle.kept_writer.specs.KeptWriter.{writerIn};
-ghost use Rattle.kept_loading.specs.KeptLoading.{onKept, lentAfter, Leaves, SameLength, recordAfter};
+ghost use Rattle.kept_writer.specs.KeptWriter.{streamIn, writerIn};
+ghost use Rattle.kept_loading.specs.KeptLoading.{onKept, givenAfter, bytesPushed};
+
+// The number of a push with a side too short: that the bytes hold no record comes first.
+pub fn without_side(kept: &[u8]) -> u32
+    ensures { λ n. ⌜ n ≡ pick (eqb (streamIn (now (kept .entry)) .slot) 0) 254 251 ⌝ }
+{
+    let s = stream_in(kept);
+    if s.slot == 0 { NO_RECORD } else { NO_SIDE }
+}
 
 // Push: as push on the record that the bytes hold, without a copy of its table.
 pub fn push_kept(
@@ -34,10 +44,11 @@ pub fn push_kept(
     lent: &mut [u8],
 ) -> KeptCall
     requires { ⌜ (left .length < 4294967296) × (right .length < 4294967296) ⌝ }
-    ensures { λ q. ⌜ q ≡ onKept (now (kept .entry)) (pushOf (writerIn (now (kept .entry))) (pushArgs channels left right (now («left_data» .entry)) (now («right_data» .entry)) last) (now (lent .entry))) ⌝ }
-    ensures { λ _. ⌜ now (lent .exit) ≡ lentAfter (now (kept .entry)) (now (lent .entry)) (pushOf (writerIn (now (kept .entry))) (pushArgs channels left right (now («left_data» .entry)) (now («right_data» .entry)) last) (now (lent .entry))) ⌝ }
-    ensures { λ q. ⌜ Leaves (q .number) (now (kept .entry)) (now (kept .exit)) ⌝ }
-    ensures { λ _. ⌜ SameLength (now (kept .entry)) (now (kept .exit)) × (writerIn (now (kept .exit)) ≡ recordAfter (now (kept .entry)) (pushOf (writerIn (now (kept .entry))) (pushArgs channels left right (now («left_data» .entry)) (now («right_data» .entry)) last) (now (lent .entry)))) ⌝ }
+    ensures { λ q. ⌜ (let o = pushOf (writerIn (now (kept .entry))) (pushArgs channels left right (now («left_data» .entry)) (now («right_data» .entry)) last) (now (lent .entry)) in
+        (q ≡ onKept (now (kept .entry)) o)
+        × (now (lent .exit) ≡ givenAfter (q .number) (now (lent .entry)) (o .lent))
+        × (now (kept .exit) ≡ givenAfter (q .number) (now (kept .entry)) (bytesPushed (now (kept .entry)) o))
+        × (writerIn (now (kept .exit)) ≡ givenAfter (q .number) (writerIn (now (kept .entry))) (o .writer))) ⌝ }
 {
     let s = stream_in(kept);
     if s.slot == 0 {

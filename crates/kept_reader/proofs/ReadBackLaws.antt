@@ -30,7 +30,7 @@ use Rattle.reader.specs.declared.HpsReader.{HpsReader}
 use Rattle.reader.specs.declared.LoopStart.{LoopStart}
 use Rattle.reader.proofs.HeaderLaws.{header-cases, header-is}
 use Rattle.reader.proofs.OpenedLaws.{Parts, opened-parts, one-or-two, not-walked, and-readable}
-use Rattle.kept_reader.specs.KeptReader.{wordAt, loopNumber, loopOf, fileKept, openedBytes, offsetsIn, readerIn, ReadBack}
+use Rattle.kept_reader.specs.KeptReader.{wordAt, loopNumber, loopOf, fileKept, offsetsKept, openedBytes, offsetsIn, readerIn, ReadBack}
 use Rattle.kept_reader.proofs.KeptReads.{word-in, first-offset, offsets-long, second-lesser, part-made}
 
 -- ---- Lengths
@@ -188,21 +188,21 @@ none-bytes = refl
 
 -- the file header that is kept, and the record's parts after it
 module _ (s kept : List ℕ) (count : ℕ) (os : List ℕ) (start : LoopStart) (h : 128 ≤ length s) (bs : List ℕ)
-    (is : bs ≡ ((fileKept s count ++ be32 (length os)) ++ be32 (loopNumber start)) ++ concat be32 os) (room : 2184 ≤ length kept) (few : length os ≤ 512) where
-  long : length bs ≡ 136 + 4 * length os
+    (is : bs ≡ ((fileKept s count ++ be32 (length os)) ++ be32 (loopNumber start)) ++ (concat be32 os ++ replicate (4 * (512 - length os)) 0)) (room : 2184 ≤ length kept) (few : length os ≤ 512) where
+  long : length bs ≡ 2184
   long =
-      ap length is ∙ simp (length-append, be32-length) (omega (arith, file-length s count h, offsets-length os))
+      ap length is ∙ simp (length-append, be32-length, length-replicate) (omega (arith, file-length s count h, offsets-length os))
 
   there : At (putAt kept 0 bs) 0 bs
   there =
       let l = long in
       record { before = []; rest = drop (0 + length bs) kept; long = refl; is = putAt-in kept 0 bs (omega arith) }
 
-  all : At (putAt kept 0 bs) 0 (((fileKept s count ++ be32 (length os)) ++ be32 (loopNumber start)) ++ concat be32 os)
+  all : At (putAt kept 0 bs) 0 (((fileKept s count ++ be32 (length os)) ++ be32 (loopNumber start)) ++ (concat be32 os ++ replicate (4 * (512 - length os)) 0))
   all = at-same _ is there
 
   front : At (putAt kept 0 bs) 0 ((fileKept s count ++ be32 (length os)) ++ be32 (loopNumber start))
-  front = at-left ((fileKept s count ++ be32 (length os)) ++ be32 (loopNumber start)) (concat be32 os) all
+  front = at-left ((fileKept s count ++ be32 (length os)) ++ be32 (loopNumber start)) (concat be32 os ++ replicate (4 * (512 - length os)) 0) all
 
   head : At (putAt kept 0 bs) 0 (fileKept s count ++ be32 (length os))
   head = at-left (fileKept s count ++ be32 (length os)) (be32 (loopNumber start)) front
@@ -223,7 +223,9 @@ module _ (s kept : List ℕ) (count : ℕ) (os : List ℕ) (start : LoopStart) (
   loop-there = at-move 132 (omega (arith, head-long)) (at-right (fileKept s count ++ be32 (length os)) (be32 (loopNumber start)) front)
 
   pub table-there : At (putAt kept 0 bs) 136 (concat be32 os)
-  table-there = at-move 136 (omega (arith, front-long)) (at-right ((fileKept s count ++ be32 (length os)) ++ be32 (loopNumber start)) (concat be32 os) all)
+  table-there =
+      at-left (concat be32 os) (replicate (4 * (512 - length os)) 0)
+      (at-move 136 (omega (arith, front-long)) (at-right ((fileKept s count ++ be32 (length os)) ++ be32 (loopNumber start)) (concat be32 os ++ replicate (4 * (512 - length os)) 0) all))
 
 -- the first channel's bytes are the slot's, and the second's where it is in use
 module _ (s k : List ℕ) (count : ℕ) (h : 128 ≤ length s) (a : At k 0 (fileKept s count)) where
@@ -286,8 +288,8 @@ opened-long s r e = channel-inside s _ (opened-parts s r e .right-read)
 
 -- the bytes of a record by its parts
 bytes-are : (s : List ℕ) (rate count : ℕ) (l r : Channel) (os : List ℕ) (start : LoopStart)
-    → openedBytes s (made rate count l r os start) ≡ ((fileKept s count ++ be32 (length os)) ++ be32 (loopNumber start)) ++ concat be32 os
-unfolding openedBytes made
+    → openedBytes s (made rate count l r os start) ≡ ((fileKept s count ++ be32 (length os)) ++ be32 (loopNumber start)) ++ (concat be32 os ++ replicate (4 * (512 - length os)) 0)
+unfolding openedBytes offsetsKept made
 bytes-are s rate count l r os start = rw (take-append-seam os (replicate (512 - length os) 0))
 
 blocks-made : (rate count : ℕ) (l r : Channel) (os : List ℕ) (start : LoopStart) → length os ≡ made rate count l r os start .blocks

@@ -1,5 +1,5 @@
 -- The opening record in lent bytes: the bytes that are put for it, and the record that bytes stand for.
-use Prim.Native.Nat.{ℕ, zero, suc, _+_, _*_, _/_, _%_, _≤_}
+use Prim.Native.Nat.{ℕ, zero, suc, _+_, _-_, _*_, _/_, _%_, _≤_}
 use mathlib.Core.Path.{_≡_}
 use mathlib.Core.List.{List, [], _∷_, _++_}
 use lib.ListN.{length, take, replicate}
@@ -53,10 +53,14 @@ loopOf n = pick (eqb n noLoop) None (Block n)
 unfoldable pub fileKept : List ℕ → (count : ℕ) → List ℕ
 fileKept s count = pick (eqb count 2) (take 128 s) (take 72 s ++ replicate 56 0)
 
+-- "block offsets (zeros beyond)": the places of 512 offsets.
+unfoldable pub offsetsKept : (blocks : ℕ) (offsets : List ℕ) → List ℕ
+offsetsKept n os = concat be32 (take n os) ++ replicate (4 * (blockLimit - n)) 0
+
 -- The record of a slot that was opened: file header, count of blocks, loop start, the blocks' offsets.
 unfoldable pub openedBytes : List ℕ → HpsReader → List ℕ
 openedBytes s r =
-    ((fileKept s (r .count) ++ be32 (r .blocks)) ++ be32 (loopNumber (r .«loop_start»))) ++ concat be32 (take (r .blocks) (r .offsets))
+    ((fileKept s (r .count) ++ be32 (r .blocks)) ++ be32 (loopNumber (r .«loop_start»))) ++ offsetsKept (r .blocks) (r .offsets)
 
 -- The offsets of n blocks from block i on: those from one block to another as they stand there, zeros elsewhere.
 unfoldable pub offsetsIn : List ℕ → (from to : ℕ) → (n i : ℕ) → List ℕ

@@ -1,10 +1,11 @@
 -- What a push says of a channel, and a cue of the table, in lent bytes. A number that is not wholly there is 0.
 use Prim.Native.Nat.{ℕ, zero, suc, _+_, _-_}
+use mathlib.Core.Bool.{Bool}
 use mathlib.Core.List.{List, [], _∷_, _++_}
 use lib.ListN.{length, replicate}
-use lib.Dec.{leb, eqb}
+use lib.Dec.{ltb, leb, eqb}
 use lib.IntN.{ℤ, pos}
-use Rattle.layout.specs.Choice.{pick}
+use Rattle.layout.specs.Choice.{pick, _or_, _and_}
 use Rattle.layout.specs.Records.{u16At, i16At}
 use Rattle.layout.specs.Refusals.{cueLimit}
 use Rattle.writer.specs.Calls.{noCue}
@@ -32,6 +33,10 @@ signedFrom s at (suc n) = signedAt s at ∷ signedFrom s (at + 2) n
 unfoldable pub sideIn : List ℕ → (at : ℕ) → ChannelBlock
 sideIn s at =
     record { rate = wordAt s at; length = wordAt s (at + 4); coefficients = signedFrom s (at + 8) 16; gain = halfAt s (at + 40); context = record { «predictor_and_scale» = halfAt s (at + 42); last = signedAt s (at + 44); oldest = signedAt s (at + 46) } }
+
+-- Whether a side of a channel of the push has fewer than 48 bytes: the left one, and the right one in stereo.
+unfoldable pub sidesShort : (channels : ℕ) (left right : List ℕ) → Bool
+sidesShort ch l r = ltb (length l) 48 or (eqb ch 2 and ltb (length r) 48)
 
 -- ---- A cue
 

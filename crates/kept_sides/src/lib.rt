@@ -11,7 +11,10 @@ use writer::Cue;
 use writer::CueKind;
 ghost use mathlib.Core.Path.{_≡_};
 ghost use Prim.Native.Nat.{_<_, _≤_};
-ghost use Rattle.kept_sides.specs.KeptSides.{halfAt, signedAt, signedFrom, sideIn, kindOf, cueIn, tableIn};
+ghost use Rattle.kept_sides.specs.KeptSides.{halfAt, signedAt, signedFrom, sideIn, sidesShort, kindOf, cueIn, tableIn};
+
+// A side: rate, length, 16 coefficients, gain, context.
+const SIDE_SIZE: usize = 48;
 
 // A cue: start, range length, kind, name.
 const CUE_SIZE: usize = 24;
@@ -64,6 +67,19 @@ pub fn side_in(s: &[u8], at: usize) -> ChannelBlock
         gain: half(s, at + 40),
         context,
     }
+}
+
+// Whether a side of a channel of the push has too few bytes. In mono the right side counts for nothing.
+pub fn sides_short(channels: usize, left: &[u8], right: &[u8]) -> bool
+    ensures { λ b. ⌜ b ≡ sidesShort channels (now (left .entry)) (now (right .entry)) ⌝ }
+{
+    if left.len() < SIDE_SIZE {
+        return true;
+    }
+    if channels != 2 {
+        return false;
+    }
+    right.len() < SIDE_SIZE
 }
 
 // 0 a point, 1 a loop, any other number a range.

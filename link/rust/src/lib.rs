@@ -1,10 +1,16 @@
 //! The proved calls on walk-in music slots, for Rust. An error is a refusal's number of document 01, or one of those below.
-mod raw;
+pub mod raw;
 
 /// Past the last block, or no more cues.
 pub const END: u32 = 255;
 /// The bytes are no record.
 pub const NO_RECORD: u32 = 254;
+/// No such looping mode or kind of cue.
+pub const NO_KIND: u32 = 253;
+/// The bytes lent for a record or a cursor are too few for it.
+pub const NO_ROOM: u32 = 252;
+/// A side of a channel of the push has fewer than `SIDE_SIZE` bytes.
+pub const NO_SIDE: u32 = 251;
 
 pub const OPENED_SIZE: usize = 2184;
 pub const LOADER_SIZE: usize = 3256;
@@ -53,9 +59,10 @@ pub struct Cursor {
 
 impl Opened {
     pub fn open(slot: &[u8]) -> Result<Opened, u32> {
-        let mut bytes = [0; OPENED_SIZE];
-        open_into(slot, &mut bytes)?;
-        Ok(Opened { bytes })
+        // An accepted opening puts every byte of the record: none needs a value before.
+        let mut opened = std::mem::MaybeUninit::<Opened>::uninit();
+        answer(unsafe { raw::hps_open(slot.as_ptr(), slot.len(), opened.as_mut_ptr().cast(), OPENED_SIZE) })?;
+        Ok(unsafe { opened.assume_init() })
     }
 
     /// The record that these bytes spell, whoever wrote them; what they do not spell is refused by the calls.
@@ -123,7 +130,8 @@ impl Opened {
         Ok(addresses)
     }
 
-    /// Cues from the cursor on, as many as `out` holds; their bytes, and whether more may follow.
+    /// Cues from the cursor on, as many as `out` holds; their bytes, and whether more may follow. A refusal that comes after cues is left to the next call;
+    /// 14 where `out` holds no cue.
     pub fn cues<'a>(&self, slot: &[u8], cursor: &mut Cursor, out: &'a mut [u8]) -> Result<(&'a [u8], bool), u32> {
         let mut cues = 0;
         let number = unsafe {
@@ -160,7 +168,7 @@ pub fn cue(bytes: &[u8]) -> Cue {
     Cue { start, point }
 }
 
-/// Opens a slot into lent bytes: 14 where they are too few.
+/// Opens a slot into lent bytes: `NO_ROOM` where they are too few.
 pub fn open_into(slot: &[u8], opened: &mut [u8]) -> Result<(), u32> {
     answer(unsafe { raw::hps_open(slot.as_ptr(), slot.len(), opened.as_mut_ptr(), opened.len()) })
 }

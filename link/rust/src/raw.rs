@@ -1,4 +1,4 @@
-//! The functions of libhps.a as `include/hps.h` declares them. A Rattle slice is a pointer and a length.
+//! The functions of libhps.a as `include/hps.h` declares them, for records in bytes of the caller's own. A Rattle slice is a pointer and a length.
 unsafe extern "C" {
     pub fn hps_open(slot: *const u8, slot_length: usize, opened: *mut u8, opened_length: usize) -> u32;
     pub fn hps_block(

@@ -100,12 +100,49 @@ fn opening_refuses_by_number_and_leaves_the_lent_bytes() {
         assert_eq!(open_into(slot, &mut opened), Err(number));
         assert!(opened.iter().all(|b| *b == 0x5A), "refused with {number}");
     }
-    let mut short = [0x5A; OPENED_SIZE - 1];
-    assert_eq!(open_into(&slot, &mut short), Err(14));
-    assert!(short.iter().all(|b| *b == 0x5A));
+    // Too few bytes for the record come before every other number.
+    for slot in [&slot[..], &bad_count, &vec![0; 16_777_217]] {
+        let mut short = [0x5A; OPENED_SIZE - 1];
+        assert_eq!(open_into(slot, &mut short), Err(NO_ROOM));
+        assert!(short.iter().all(|b| *b == 0x5A));
+    }
     let mut long = [0x5A; OPENED_SIZE + 8];
     assert_eq!(open_into(&slot, &mut long), Ok(()));
+    let offsets: Vec<u32> = long[136..OPENED_SIZE].chunks(4).map(|b| u32::from_be_bytes(b.try_into().unwrap())).collect();
+    assert_eq!(offsets[..2], [128, 256]);
+    assert!(offsets[2..].iter().all(|offset| *offset == 0), "the offsets beyond the blocks are zeros");
     assert!(long[OPENED_SIZE..].iter().all(|b| *b == 0x5A), "bytes beyond the record were changed");
+}
+
+/// Cue calls into lent bytes of any length: their number, how many cues, and whether the cursor is as it was.
+fn cues_into(slot: &[u8], opened: &Opened, cursor: &mut [u8], out: &mut [u8]) -> (u32, usize, bool) {
+    let (before, mut cues) = (cursor.to_vec(), 77);
+    let (o, c) = (opened.bytes(), (cursor.as_mut_ptr(), cursor.len()));
+    let number =
+        unsafe { raw::hps_cues(slot.as_ptr(), slot.len(), o.as_ptr(), o.len(), c.0, c.1, out.as_mut_ptr(), out.len(), &mut cues) };
+    (number, cues, cursor == before)
+}
+
+#[test]
+fn refused_cue_calls_leave_cursor_count_and_buffer() {
+    let (slot, _, _) = loaded();
+    let opened = Opened::open(&slot).unwrap();
+    let mut out = [0xEE; 4 * CUE_SIZE];
+    assert_eq!(cues_into(&slot, &opened, &mut [0; CURSOR_SIZE - 1], &mut out), (NO_ROOM, 77, true));
+    assert_eq!(cues_into(&slot, &Opened::from_bytes([0; OPENED_SIZE]), &mut [0; CURSOR_SIZE], &mut out[..1]), (NO_RECORD, 77, true));
+    assert_eq!(cues_into(&slot, &opened, &mut [0; CURSOR_SIZE], &mut out[..CUE_SIZE - 1]), (14, 77, true));
+    assert_eq!(cues_into(&slot[..140], &opened, &mut [0; CURSOR_SIZE], &mut out), (1, 77, true));
+    assert_eq!(out, [0xEE; 4 * CUE_SIZE]);
+    // The range and the loop are given with 0; the second block's header, which leaves the slot, refuses the next call.
+    let mut cursor = [0; CURSOR_SIZE];
+    assert_eq!(cues_into(&slot[..270], &opened, &mut cursor, &mut out), (0, 2, false));
+    assert_eq!([cue(&out), cue(&out[CUE_SIZE..])], [Cue { start: 3, point: Some(1) }, Cue { start: 28, point: None }]);
+    assert!(out[2 * CUE_SIZE..].iter().all(|b| *b == 0xEE), "bytes beyond the cues were changed");
+    let given = out;
+    assert_eq!(cues_into(&slot[..270], &opened, &mut cursor, &mut out), (1, 77, true));
+    assert_eq!(out, given);
+    // On the whole slot the same cursor goes on to the end.
+    assert_eq!(cues_into(&slot, &opened, &mut cursor, &mut out), (END, 0, false));
 }
 
 #[test]
@@ -142,6 +179,83 @@ fn begin_refuses_in_its_order() {
     assert_eq!(lent, [0x5A; 4]);
     Loader::begin(192, 1, Looping::Enabled, &mut lent).unwrap();
     assert_eq!(lent, [0, 0x5A, 0x5A, 0x5A]);
+}
+
+/// Begin into lent bytes of any length.
+fn begin_into(slot: usize, channels: usize, mode: u32, kept: &mut [u8]) -> u32 {
+    let (mut lent, mut place) = ([0], Place::default());
+    unsafe {
+        raw::hps_begin(slot, channels, mode, kept.as_mut_ptr(), kept.len(), lent.as_mut_ptr(), 1, &mut place.offset, &mut place.length)
+    }
+}
+
+#[test]
+fn begin_refuses_short_records_and_unknown_modes_first() {
+    let mut kept = [0x5A; LOADER_SIZE];
+    for (room, mode, channels, slot, number) in [(LOADER_SIZE - 1, 3, 3, 0, NO_ROOM), (0, 0, 1, 192, NO_ROOM), (LOADER_SIZE, 3, 3, 0, NO_KIND), (LOADER_SIZE, 2, 3, 0, 3)] {
+        assert_eq!(begin_into(slot, channels, mode, &mut kept[..room]), number);
+        assert!(kept.iter().all(|b| *b == 0x5A), "refused with {number}");
+    }
+}
+
+/// Push, with sides and record in lent bytes of any length.
+fn push_into(kept: &mut [u8], channels: usize, left: &[u8], right: &[u8], last: bool) -> u32 {
+    let (data, mut lent, mut place) = ([7; 8], [0; 256], Place::default());
+    let (l, r, d) = ((left.as_ptr(), left.len()), (right.as_ptr(), right.len()), data.as_ptr());
+    let out = (lent.as_mut_ptr(), lent.len());
+    unsafe {
+        raw::hps_push(
+            kept.as_mut_ptr(), kept.len(), channels, l.0, l.1, d, 8, r.0, r.1, d, 8, last, out.0, out.1, &mut place.offset, &mut place.length,
+        )
+    }
+}
+
+/// A side of 16 addresses.
+const SIDE: [u8; SIDE_SIZE] = {
+    let mut b = [0; SIDE_SIZE];
+    (b[2], b[7]) = (0x7D, 16);
+    b
+};
+
+#[test]
+fn a_side_too_short_is_refused() {
+    let short = &SIDE[..SIDE_SIZE - 1];
+    for (channels, left, right, number) in [
+        (1, &SIDE[..8], &SIDE[..], NO_SIDE),
+        (1, short, &SIDE, NO_SIDE),
+        (2, &SIDE, short, NO_SIDE),
+        (2, short, &SIDE, NO_SIDE),
+        (3, short, &SIDE, NO_SIDE),
+        (3, &SIDE, short, 29),
+        (2, &SIDE, &SIDE, 0),
+        (1, &SIDE, &[], 0),
+    ] {
+        let mut kept = [0; LOADER_SIZE];
+        assert_eq!(begin_into(SLOT, if channels == 1 { 1 } else { 2 }, 2, &mut kept), 0);
+        let before = kept;
+        assert_eq!(push_into(&mut kept, channels, left, right, false), number);
+        assert!(number == 0 || kept == before, "the record was changed by a call refused with {number}");
+    }
+    assert_eq!(push_into(&mut [0xFF; LOADER_SIZE], 1, short, &[], false), NO_RECORD, "no record comes before a side too short");
+}
+
+#[test]
+fn bytes_past_the_record_are_left_alone() {
+    const LONG: usize = LOADER_SIZE + 24;
+    let mut kept = [0x5A; LONG];
+    let past = |kept: &[u8; LONG], call| assert!(kept[LOADER_SIZE..].iter().all(|b| *b == 0x5A), "bytes beyond the record were changed by {call}");
+    assert_eq!(begin_into(SLOT, 1, 2, &mut kept), 0);
+    assert!(kept[184..].iter().all(|b| *b == 0x5A), "begin puts numbers and sides, and leaves the table's place");
+    assert_eq!(unsafe { raw::hps_cue(kept.as_mut_ptr(), LONG, 5, 0, 0, 1) }, 0);
+    assert!(kept[208..].iter().all(|b| *b == 0x5A), "cue puts the table's cues, and leaves the rest of its place");
+    assert_eq!(push_into(&mut kept, 1, &SIDE, &[], false), 0);
+    past(&kept, "the first push");
+    let sides = kept[88..184].to_vec();
+    assert_eq!(push_into(&mut kept, 1, &SIDE, &[], true), 0);
+    assert!(kept[88..184] == sides && kept[208..].iter().all(|b| *b == 0x5A), "a later push puts the numbers alone");
+    let (before, mut lent, mut finished) = (kept, [0; 128], 0);
+    assert_eq!(unsafe { raw::hps_finish(kept.as_mut_ptr(), LONG, lent.as_mut_ptr(), 128, &mut finished) }, 0);
+    assert!(kept[..84] == before[..84] && kept[84..88] == [0, 0, 0, 1] && kept[88..] == before[88..], "finish puts its mark alone");
 }
 
 /// A refused call: its number, and the record and the lent bytes as they were.

@@ -1,23 +1,22 @@
-use Rattle.kept_loading.specs.declared.KeptCall.{KeptCall}
 use mathlib.Core.Path.{_≡_, refl, ap, sym, _∙_}
-use native.Mathlib.Omega.{arith}
 use borrow.Author.Tests.{ne-eqb}
 use Rattle.writer.specs.Calls.{cueOf, cued}
 use Rattle.writer.specs.declared.HpsWriter.{HpsWriter}
 use Rattle.writer.specs.declared.Cued.{Cued}
 use Rattle.kept_writer.specs.KeptWriter.{streamIn, writerIn}
 use Rattle.kept_writer.proofs.KeptLaws.{kept-good}
-use Rattle.kept_loading.proofs.CallLaws.{no-record, none-after, cue-refused, cue-leaves, cue-accepted}
+use Rattle.kept_table.specs.KeptTable.{tablePut}
+use Rattle.kept_loading.proofs.CallLaws.{leaves, gives, no-record, cue-refused, cue-number, cue-accepted}
 use Rattle.kept_loading.proofs.AfterLaws.{holds, cue-after}
 use borrow.Author.Needs.{needs}
 use Rattle.kept_loading.proofs.cue_kept.Statement.{statement}
 use Rattle.kept_loading.proofs.cue_kept.Tie as tie
 use Rattle.kept_loading.proofs.cue_kept.Reads as reads
 use Rattle.kept_loading.proofs.cue_kept.Lts as lts
+use Rattle.cue_writer.proofs.cue.Reads as cue-reads
 use Rattle.kept_loading.proofs.refused.Reads as refused-reads
 use Rattle.kept_table.proofs.put_table.Reads as put-table-reads
 use Rattle.kept_writer.proofs.loader.writer_in.Reads as writer-in-reads
-use Rattle.cue_writer.proofs.cue.Reads as cue-reads
 
 writer-in-requires : tie.Need-writer-in-requires
 writer-in-requires c κs = search needs
@@ -32,8 +31,9 @@ returns : tie.Need-returns
 returns c =
     let s = c .before .before .before .before .before .before in
     let k = s .args .kept .now in
+    let e = c .refused .ensures in
     let h : streamIn k .slot ≡ 0 = sym (ap (λ (m : HpsWriter). m .slot) (c .before .before .before .writer-in .ensures)) ∙ c .before .if1 .taken in
-    (no-record k (s .args .kept .now) (cueOf (writerIn k) (s .args .c)) h _ (c .refused .ensures) .0, (λ _. refl, (none-after k (cueOf (writerIn k) (s .args .c)) h, refl)))
+    (no-record k (cueOf (writerIn k) (s .args .c)) h _ e, (leaves _ _ _ 254 e refl, leaves _ _ _ 254 e refl))
 
 cue-requires : tie.Need-cue-requires
 cue-requires c κs = rw (c .before .before .writer-in .ensures) (kept-good _)
@@ -70,8 +70,12 @@ returns-2 c =
     let some : streamIn k .slot ≡ 0 → ⊥ = λ z. e .if1 .left (ap (λ (m : HpsWriter). m .slot) (e .before .before .writer-in .ensures) ∙ z) in
     let told : u .cue .result ≡ cued (cueOf (writerIn k) (s .args .c)) = u .cue .ensures .0 ∙ ap (λ (m : HpsWriter). cued (cueOf m (s .args .c))) (e .before .before .writer-in .ensures) in
     let r = c .before .before .reply .given .1 in
-    rw (ne-eqb (streamIn k .slot) 0 some)
-    (c .refused2 .ensures ∙ cue-refused (writerIn k) (s .args .c) (u .cue .result) told _ r, (λ _. refl, (sym (cue-leaves (writerIn k) (s .args .c) (u .cue .result) told _ r), refl)))
+    let i = c .refused2 .ensures in
+    let t = cue-number (writerIn k) (s .args .c) (u .cue .result) told _ r in
+    rw (ne-eqb (streamIn k .slot) 0 some) (
+      i ∙ cue-refused (writerIn k) (s .args .c) (u .cue .result) told _ r,
+      (leaves _ _ _ _ i t, leaves _ _ _ _ i t),
+    )
 
 same-length-3 : tie.Need-same-length-3
 same-length-3 c = search needs
@@ -86,8 +90,15 @@ returns-3 c =
     let k = s .args .kept .now in
     let some : streamIn k .slot ≡ 0 → ⊥ = λ z. e .if1 .left (ap (λ (m : HpsWriter). m .slot) (e .before .before .writer-in .ensures) ∙ z) in
     let told : u .cue .result ≡ cued (cueOf (writerIn k) (s .args .c)) = u .cue .ensures .0 ∙ ap (λ (m : HpsWriter). cued (cueOf m (s .args .c))) (e .before .before .writer-in .ensures) in
-    rw (ne-eqb (streamIn k .slot) 0 some)
-    (c .refused3 .ensures ∙ cue-accepted (writerIn k) (s .args .c) (u .cue .result) told _ (d .enum-told .given .1), (λ h. absurd (omega (arith, ap (λ (m : KeptCall). m .number) (c .refused3 .ensures))), (cue-after k (s .args .c) (u .cue .result .writer) (p .put-table .last .0) some (ap (λ (q : Cued). q .writer) told) (p .put-table .ensures .0) (p .put-table .ensures .1), search needs)))
+    let w = ap (λ (q : Cued). q .writer) told in
+    let i = c .refused3 .ensures in
+    rw (ne-eqb (streamIn k .slot) 0 some) (
+      i ∙ cue-accepted (writerIn k) (s .args .c) (u .cue .result) told _ (d .enum-told .given .1),
+      (
+        p .put-table .ensures .0 ∙ ap (λ (m : HpsWriter). tablePut k (m .cues) (m .count)) w ∙ gives _ _ _ 0 i refl,
+        cue-after k (s .args .c) (u .cue .result .writer) (p .put-table .last .0) some w (p .put-table .ensures .0) (p .put-table .ensures .1) ∙ gives _ _ _ 0 i refl,
+      ),
+    )
 
 pub cue-kept-spec : {M : Type 1} → statement M
 cue-kept-spec =

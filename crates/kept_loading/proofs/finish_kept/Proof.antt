@@ -1,15 +1,12 @@
 use mathlib.Core.Path.{_≡_, refl, ap, sym, _∙_}
-use native.Mathlib.Omega.{arith}
-use lib.ListN.{length}
-use Rattle.puts.proofs.PutLaws.{putAt-length}
 use borrow.Author.Tests.{eq-eqb, ne-eqb}
 use Rattle.writer.specs.Calls.{finishOf, finished}
 use Rattle.writer.specs.declared.HpsWriter.{HpsWriter}
+use Rattle.writer.specs.declared.Finished.{Finished}
 use Rattle.kept_writer.specs.KeptWriter.{streamIn, writerIn}
 use Rattle.kept_writer.proofs.KeptLaws.{kept-good}
-use Rattle.writer.specs.declared.Finished.{Finished}
-use Rattle.kept_loading.proofs.BackLaws.{finish-after, finish-left}
-use Rattle.kept_loading.proofs.CallLaws.{finish-told, finish-given}
+use Rattle.kept_loading.proofs.BackLaws.{finish-after}
+use Rattle.kept_loading.proofs.CallLaws.{leaves, finish-number, finish-lent, finish-told, finish-given}
 use borrow.Author.Needs.{needs}
 use Rattle.kept_loading.proofs.finish_kept.Statement.{statement}
 use Rattle.kept_loading.proofs.finish_kept.Tie as tie
@@ -33,8 +30,9 @@ returns : tie.Need-returns
 returns c =
     let s = c .before .before .before .before .before .before .before in
     let k = s .args .kept .now in
+    let e = c .refused .ensures in
     let h : streamIn k .slot ≡ 0 = sym (ap (λ (m : HpsWriter). m .slot) (c .before .before .before .writer-in .ensures)) ∙ c .before .if1 .taken in
-    rw (eq-eqb (streamIn k .slot) 0 h) (c .refused .ensures, (refl, (λ _. refl, (refl, refl))))
+    rw (eq-eqb (streamIn k .slot) 0 h) (e, (leaves _ _ _ 254 e refl, (leaves _ _ _ 254 e refl, leaves _ _ _ 254 e refl)))
 
 finish-requires : tie.Need-finish-requires
 finish-requires c κs = rw (c .before .before .before .writer-in .ensures) (kept-good _)
@@ -68,8 +66,15 @@ returns-2 c =
     let o = finishOf (writerIn k) (s .args .lent .now) in
     let q : u .finish .result ≡ finished o = u .finish .ensures .0 ∙ ap (λ (m : HpsWriter). finished (finishOf m (s .args .lent .now))) w in
     let r = c .before .before .reply .given .1 in
-    rw (ne-eqb (streamIn k .slot) 0 some)
-    (c .refused2 .ensures ∙ finish-told o _ q _ r, (u .finish .ensures .1 .0 ∙ ap (λ (m : HpsWriter). finishOf m (s .args .lent .now) .lent) w, (λ _. refl, (refl, finish-left k (s .args .lent .now) _ (sym (ap (λ (f : Finished). f .reply) q) ∙ r)))))
+    let i = c .refused2 .ensures in
+    let t = finish-number (writerIn k) (s .args .lent .now) _ q _ r in
+    rw (ne-eqb (streamIn k .slot) 0 some) (
+      i ∙ finish-told o _ q _ r,
+      (
+        u .finish .ensures .1 .0 ∙ ap (λ (m : HpsWriter). finishOf m (s .args .lent .now) .lent) w ∙ finish-lent (writerIn k) (s .args .lent .now) _ q _ r ∙ leaves _ _ _ _ i t,
+        (leaves _ _ _ _ i t, leaves _ _ _ _ i t),
+      ),
+    )
 
 same-length-4 : tie.Need-same-length-4
 same-length-4 c = search needs
@@ -89,8 +94,14 @@ returns-3 c =
     let o = finishOf (writerIn k) (s .args .lent .now) in
     let q : u .finish .result ≡ finished o = u .finish .ensures .0 ∙ ap (λ (m : HpsWriter). finished (finishOf m (s .args .lent .now))) w in
     let r = d .reply2 .given .1 in
-    rw (ne-eqb (streamIn k .slot) 0 some)
-    (finish-given o _ q _ r, (u .finish .ensures .1 .0 ∙ ap (λ (m : HpsWriter). finishOf m (s .args .lent .now) .lent) w, (λ h. absurd (omega arith), (ap length (c .before .before .put-finished .ensures) ∙ putAt-length _ _ _, ap writerIn (c .before .before .put-finished .ensures) ∙ finish-after k (s .args .lent .now) _ some (sym (ap (λ (f : Finished). f .reply) q) ∙ r)))))
+    let put = c .before .before .put-finished .ensures in
+    rw (ne-eqb (streamIn k .slot) 0 some) (
+      finish-given o _ q _ r,
+      (
+        u .finish .ensures .1 .0 ∙ ap (λ (m : HpsWriter). finishOf m (s .args .lent .now) .lent) w,
+        (put, ap writerIn put ∙ finish-after k (s .args .lent .now) _ some (sym (ap (λ (f : Finished). f .reply) q) ∙ r)),
+      ),
+    )
 
 pub finish-kept-spec : {M : Type 1} → statement M
 finish-kept-spec =

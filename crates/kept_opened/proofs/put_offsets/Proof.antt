@@ -1,6 +1,5 @@
-use Rattle.reader.proofs.RecordLaws.{shaped}
 use borrow.Author.Needs.{needs}
-use Prim.Native.Nat.{_-_}
+use Prim.Native.Nat.{_-_, _≤_}
 use native.Mathlib.Omega.{arith}
 use Rattle.kept_opened.proofs.KeptPuts.{OffsetsPut, offsets-none, offsets-more, offsets-all}
 use Rattle.kept_opened.proofs.put_offsets.Statement.{statement}
@@ -10,28 +9,25 @@ use Rattle.kept_opened.proofs.put_offsets.Lts as lts
 use Rattle.puts.proofs.put_u32.Reads as put-u32-reads
 
 abbrev Inv-loop : tie.InvT-loop
-Inv-loop kept₀ r i₀ kept i = OffsetsPut kept₀ (r .offsets) (r .blocks) kept i
+Inv-loop kept₀ offsets n i₀ kept i = OffsetsPut kept₀ offsets n kept i × (n ≤ 512)
 
 abbrev μ-loop : tie.MeasureT-loop
-μ-loop kept₀ r i₀ kept i = r .blocks - i
+μ-loop kept₀ offsets n i₀ kept i = n - i
 
 loop-holds : tie.Need-loop-holds Inv-loop μ-loop
-loop-holds c =
-    let z = c .before in
-    let s = shaped (z .args .t2) _ (z .good .1 .0) in
-    offsets-none (omega (arith, s .offsets, z .pre .0 .blocks)) (omega (arith, z .pre .0 .blocks, z .pre .1))
-
-mul-offset : tie.Need-mul-offset Inv-loop μ-loop
-mul-offset c = search needs
-
-element-copy-out-offset : tie.Need-element-copy-out-offset Inv-loop μ-loop
-element-copy-out-offset c = search needs
+loop-holds c = let p = c .before .before .pre in (offsets-none (p .1) (omega (arith, p .0, p .2)), p .0)
 
 mul-put-u32 : tie.Need-mul-put-u32 Inv-loop μ-loop
 mul-put-u32 c = search needs
 
 add-put-u32 : tie.Need-add-put-u32 Inv-loop μ-loop
 add-put-u32 c = search needs
+
+mul-put-u32-2 : tie.Need-mul-put-u32-2 Inv-loop μ-loop
+mul-put-u32-2 c = search needs
+
+shared-slice-read-put-u32 : tie.Need-shared-slice-read-put-u32 Inv-loop μ-loop
+shared-slice-read-put-u32 c = search needs
 
 put-u32-requires : tie.Need-put-u32-requires Inv-loop μ-loop
 put-u32-requires c κs = search needs
@@ -58,10 +54,10 @@ put-offsets-spec =
     Inv-loop
     μ-loop
     loop-holds
-    mul-offset
-    element-copy-out-offset
     mul-put-u32
     add-put-u32
+    mul-put-u32-2
+    shared-slice-read-put-u32
     put-u32-requires
     add-i
     loop-less

@@ -4,23 +4,23 @@ use mathlib.Core.Bool.{Bool}
 use native.Mathlib.Omega.{arith}
 use lib.ListN.{length}
 use lib.Seq.{slice}
+use borrow.Author.Tests.{ne-eqb}
 use Rattle.writer.specs.Loading.{Push, anyLoop}
 use Rattle.writer.specs.Calls.{pushOf}
 use Rattle.push_due.specs.PushDue.{pushArgs}
 use Rattle.push_plan.specs.declared.Stream.{Stream}
 use Rattle.push_plan.specs.PushPlan.{endFrom, loopFrom, planOf, advanced}
 use Rattle.layout.specs.Puts.{putAt}
-use Rattle.puts.proofs.PutLaws.{putAt-length}
 use Rattle.taking.specs.Taking.{filledBytes}
 use Rattle.kept_sides.specs.KeptSides.{tableIn}
 use Rattle.kept_writer.specs.KeptWriter.{streamIn, writerIn, takenIn, heldIn}
 use Rattle.kept_writer.proofs.KeptLaws.{kept-good, loop-same}
 use Rattle.block_writer.proofs.PushLaws.{push-refused, push-accepted, sound, to-within, few-points, are-taken, Worked, due-is, passes, starts, totals, sized, room, bytes-are}
-use Rattle.kept_loading.proofs.CallLaws.{no-record, gave, none-after, some-after}
+use Rattle.kept_loading.proofs.CallLaws.{leaves, no-record, on-record}
 use Rattle.kept_record.specs.KeptRecord.{pushedBytes}
 use Rattle.kept_loading.proofs.AfterLaws.{holds}
 use Rattle.kept_loading.proofs.BackLaws.{SideFits}
-use Rattle.kept_pushing.proofs.PushedLaws.{signed-field, push-after, push-left}
+use Rattle.kept_pushing.proofs.PushedLaws.{signed-field, push-after, push-stream}
 use borrow.Author.Needs.{needs}
 use Rattle.kept_pushing.proofs.push_kept.Statement.{statement}
 use Rattle.kept_pushing.proofs.push_kept.Tie as tie
@@ -130,8 +130,8 @@ returns c =
     let s = c .before .before .before .before .before .before .before .before .before in
     let k = s .args .kept .now in
     let h : streamIn k .slot ≡ 0 = sym (ap (λ (m : Stream). m .slot) (c .before .before .before .stream-in .ensures)) ∙ c .before .if1 .taken in
-    let q = no-record k (s .args .lent .now) (pushOf (writerIn k) (pushed s) (s .args .lent .now)) h _ (c .refused .ensures) in
-    (q .0, (q .1, (λ _. refl, (refl, none-after k (pushOf (writerIn k) (pushed s) (s .args .lent .now)) h))))
+    let e = c .refused .ensures in
+    (no-record k (pushOf (writerIn k) (pushed s) (s .args .lent .now)) h _ e, leaves _ _ _ 254 e refl, leaves _ _ _ 254 e refl, leaves _ _ _ 254 e refl)
 
 block-end-requires : tie.Need-block-end-requires
 block-end-requires c κs = let g = kept-good (start c .args .kept .now) in rw (stream c) (omega (arith, g .base, g .many))
@@ -161,8 +161,9 @@ returns-2 c =
     let s = start e in
     let k = s .args .kept .now in
     let q = push-refused (writerIn k) (pushed s) (s .args .lent .now) _ (due-is (worked p)) (c .before .if2 .taken) _ refl in
-    let r = gave k (s .args .lent .now) (pushOf (writerIn k) (pushed s) (s .args .lent .now)) (some e) _ _ q in
-    (c .refused2 .ensures ∙ r .0, (r .1, (λ _. refl, (refl, some-after k (pushOf (writerIn k) (pushed s) (s .args .lent .now)) (some e) _ (push-left k (pushed s) (s .args .lent .now) _ (due-is (worked p)) (c .before .if2 .taken))))))
+    let i = c .refused2 .ensures in
+    let t = ne-eqb _ 0 (c .before .if2 .taken) in
+    (i ∙ on-record k (pushOf (writerIn k) (pushed s) (s .args .lent .now)) (some e) _ (q .0), leaves _ _ _ _ i t, leaves _ _ _ _ i t, leaves _ _ _ _ i t)
 
 put-header-requires : tie.Need-put-header-requires
 put-header-requires c κs = search needs
@@ -227,13 +228,14 @@ returns-3 c =
     ∙ ap (λ (m : Stream). putAt (c .before .before .before .before .before .before .before .before .before .before .before .before .before .before .before .before .put-header .last .0) 32 (filledBytes (m .base) (m .id) (slice (m .next) (p .before .before .before .take-kept .result .to) (tableIn k 184 (m .count))))) (stream e) in
     let b = bytes-are w z _ _ _ (c .before .before .before .before .before .before .before .before .before .before .before .before .before .before .before .before .put-header .ensures) put (c .before .before .before .before .before .before .before .put-data .ensures) in
     let q = push-accepted (writerIn k) (pushed s) (s .args .lent .now) _ (due-is w) z _ _ _ refl (sized w z) (room w z .1) b in
-    let r = gave k (s .args .lent .now) (pushOf (writerIn k) (pushed s) (s .args .lent .now)) (some e) _ _ q in
+    let r = on-record k (pushOf (writerIn k) (pushed s) (s .args .lent .now)) (some e) _ (q .0) in
     let t = p .before .before .before .take-kept .result in
     let end = p .before .before .before .before .before .block-end .result in
     let next : Stream → Stream = λ m. advanced m t end (p .plan-push .result .size) (p .plan-push .result .loopat) (s .args .left) (s .args .right) (s .args .last) in
     let after = c .before .before .put-pushed .ensures ∙ ap (λ (m : Stream). putAt k 0 (pushedBytes m)) (c .before .before .before .before .advance .ensures ∙ ap next (stream e)) in
     let long : streamIn k .channels < 18446744073709551616 = omega (arith, channels e, ap (λ (m : Stream). m .channels) (stream e)) in
-    (ap (λ (m : Stream). record { number = 0; offset = m .offset; length = p .plan-push .result .size }) (stream e) ∙ r .0, (r .1, (λ h. absurd (omega arith), (ap length after ∙ putAt-length _ _ _, some-after k (pushOf (writerIn k) (pushed s) (s .args .lent .now)) (some e) _ (ap writerIn after ∙ push-after k (some e) w z (left-fits s) (right-fits s) long)))))
+    let stays = push-stream k (some e) w z (left-fits s) (right-fits s) long in
+    (ap (λ (m : Stream). record { number = 0; offset = m .offset; length = p .plan-push .result .size }) (stream e) ∙ r, q .1, after ∙ ap (λ (m : Stream). putAt k 0 (pushedBytes m)) stays, ap writerIn after ∙ push-after k (some e) w z (left-fits s) (right-fits s) long)
 
 pub push-kept-spec : {M : Type 1} → statement M
 push-kept-spec =

@@ -1,19 +1,74 @@
-use mathlib.Core.Path.{_≡_, ap, _∙_}
-use Rattle.kept_loading.specs.declared.KeptCall.{KeptCall}
-use Rattle.hps.proofs.ExportedLaws.{given, left}
+use mathlib.Core.Path.{_≡_, sym, ap, _∙_}
+use lib.Dec.{eqb}
 use Rattle.writer.specs.Calls.{Outcome, pushOf}
-use Rattle.writer.specs.declared.ChannelBlock.{ChannelBlock}
 use Rattle.push_due.specs.PushDue.{pushArgs}
-use Rattle.kept_sides.specs.KeptSides.{sideIn}
-use Rattle.kept_writer.specs.KeptWriter.{writerIn}
-use Rattle.kept_loading.specs.KeptLoading.{onKept, lentAfter, recordAfter}
+use Rattle.kept_sides.specs.KeptSides.{sidesShort}
+use Rattle.kept_writer.specs.KeptWriter.{streamIn, writerIn}
+use Rattle.kept_loading.specs.KeptLoading.{onKept, givenAfter, bytesPushed}
+use Rattle.kept_loading.specs.declared.KeptCall.{KeptCall}
+use Rattle.hps.specs.Exported.{pushOn, pushNumber}
+use Rattle.hps.proofs.ExportedLaws.{given, left, past, long-sides, short-side}
 use borrow.Author.Needs.{needs}
 use Rattle.hps.proofs.loading.hps_push.Statement.{statement}
 use Rattle.hps.proofs.loading.hps_push.Tie as tie
 use Rattle.hps.proofs.loading.hps_push.Reads as reads
 use Rattle.hps.proofs.loading.hps_push.Lts as lts
+use Rattle.kept_sides.proofs.sides_short.Reads as sides-short-reads
+use Rattle.kept_pushing.proofs.without_side.Reads as without-side-reads
 use Rattle.kept_pushing.proofs.push_kept.Reads as push-kept-reads
 use Rattle.kept_sides.proofs.side_in.Reads as side-in-reads
+
+-- ---- What is known after push_kept
+
+abbrev start : tie.After-push-kept → tie.Start
+start u = u .before .before .before .before .before .before .before .before .before .before .before .before .before
+
+-- the push that is asked for
+abbrev asked : tie.Start → Outcome
+asked s = pushOn (s .args .kept .now) (s .args .channels) (s .args .left .now) (s .args .left-data .now) (s .args .right .now) (s .args .right-data .now) (s .args .last) (s .args .lent .now)
+
+-- its sides read from their bytes
+same : (u : tie.After-push-kept) → let a = start u .args in
+    pushOf (writerIn (a .kept .now)) (pushArgs (a .channels) (u .before .before .before .before .side-in .result) (u .before .before .before .side-in2 .result) (a .left-data .now) (a .right-data .now) (a .last)) (a .lent .now)
+    ≡ asked (start u)
+same u =
+    let a = start u .args in
+    λ i. pushOf (writerIn (a .kept .now)) (pushArgs (a .channels) (u .before .before .before .before .side-in .ensures .0 i) (u .before .before .before .side-in2 .ensures .0 i) (a .left-data .now) (a .right-data .now) (a .last)) (a .lent .now)
+
+call : (u : tie.After-push-kept) → u .push-kept .result ≡ onKept (start u .args .kept .now) (asked (start u))
+call u = u .push-kept .ensures .0 ∙ ap (onKept (start u .args .kept .now)) (same u)
+
+numbered : (u : tie.After-push-kept) → let a = start u .args in
+    u .push-kept .result .number ≡ pushNumber (a .kept .now) (sidesShort (a .channels) (a .left .now) (a .right .now)) (asked (start u))
+numbered u =
+    ap (λ (x : KeptCall). x .number) (call u) ∙ long-sides (start u .args .kept .now) (asked (start u)) _ (sym (u .before .before .before .before .before .before .sides-short .ensures) ∙ u .before .before .before .before .before .if1 .left)
+
+lent-after : (u : tie.After-push-kept) → u .push-kept .last .1 .1 .1 .1 .1 .1 .1 .0 ≡ givenAfter (u .push-kept .result .number) (start u .args .lent .now) (asked (start u) .lent)
+lent-after u = u .push-kept .ensures .1 ∙ ap (λ (x : Outcome). givenAfter (u .push-kept .result .number) (start u .args .lent .now) (x .lent)) (same u)
+
+kept-after : (u : tie.After-push-kept) → let k = start u .args .kept .now in
+    u .push-kept .last .0 ≡ givenAfter (u .push-kept .result .number) k (bytesPushed k (asked (start u)))
+kept-after u = let k = start u .args .kept .now in u .push-kept .ensures .2 ∙ ap (λ (x : Outcome). givenAfter (u .push-kept .result .number) k (bytesPushed k x)) (same u)
+
+writer-after : (u : tie.After-push-kept) → writerIn (u .push-kept .last .0) ≡ givenAfter (u .push-kept .result .number) (writerIn (start u .args .kept .now)) (asked (start u) .writer)
+writer-after u = u .push-kept .ensures .3 ∙ ap (λ (x : Outcome). givenAfter (u .push-kept .result .number) (writerIn (start u .args .kept .now)) (x .writer)) (same u)
+
+-- ---- The needs
+
+sides-short-requires : tie.Need-sides-short-requires
+sides-short-requires c κs = search needs
+
+without-side-requires : tie.Need-without-side-requires
+without-side-requires c κs = search needs
+
+same-length : tie.Need-same-length
+same-length c = search needs
+
+returns : tie.Need-returns
+returns c =
+    let s = c .before .before .before .before .before .before .before .before .before .before in
+    let d = short-side (s .args .kept .now) (asked s) _ (sym (c .before .before .before .sides-short .ensures) ∙ c .before .before .if1 .taken) (c .without-side .ensures) in
+    (d .0, left _ _ _ (d .1), left _ _ _ (d .1), left _ _ _ (d .1), left _ _ _ (d .1), left _ _ _ (d .1))
 
 side-in-requires : tie.Need-side-in-requires
 side-in-requires c κs = search needs
@@ -24,52 +79,44 @@ side-in-requires-2 c κs = search needs
 push-kept-requires : tie.Need-push-kept-requires
 push-kept-requires c κs = search needs
 
-same-length : tie.Need-same-length
-same-length c = c .before .before .before .before .before .kept .given
-
 same-length-2 : tie.Need-same-length-2
-same-length-2 c = c .before .before .before .lent .given
-
-returns : tie.Need-returns
-returns c =
-    let u = c .before .before .before .before .before .before in
-    let r = u .before .before .before in
-    let l = r .before in
-    let a = l .before .before .before .before .before .before .before .args in
-    let o : ChannelBlock → ChannelBlock → Outcome = λ x y. pushOf (writerIn (a .kept .now)) (pushArgs (a .channels) x y (a .left-data .now) (a .right-data .now) (a .last)) (a .lent .now) in
-    let both : o (l .side-in .result) (r .side-in2 .result) ≡ o (sideIn (a .left .now) 0) (sideIn (a .right .now) 0) = λ i. o (l .side-in .ensures .0 i) (r .side-in2 .ensures .0 i) in
-    let q = u .push-kept .ensures .0 ∙ ap (onKept (a .kept .now)) both in
-    let b = u .push-kept .ensures .1 .0 ∙ ap (lentAfter (a .kept .now) (a .lent .now)) both in
-    (ap (λ (x : KeptCall). x .number) q, (ap (λ (x : KeptCall). x .offset) q ∙ given _ _ _ (c .if1 .taken), (ap (λ (x : KeptCall). x .length) q ∙ given _ _ _ (c .if1 .taken), (b, (u .push-kept .ensures .1 .1 .0, (u .push-kept .ensures .1 .1 .1 .0, u .push-kept .ensures .1 .1 .1 .1 ∙ ap (recordAfter (a .kept .now)) both))))))
+same-length-2 c = search needs
 
 same-length-3 : tie.Need-same-length-3
-same-length-3 c = c .before .before .before .before .before .kept .given
-
-same-length-4 : tie.Need-same-length-4
-same-length-4 c = c .before .before .before .lent .given
+same-length-3 c = search needs
 
 returns-2 : tie.Need-returns-2
 returns-2 c =
     let u = c .before .before .before .before .before .before in
-    let r = u .before .before .before in
-    let l = r .before in
-    let a = l .before .before .before .before .before .before .before .args in
-    let o : ChannelBlock → ChannelBlock → Outcome = λ x y. pushOf (writerIn (a .kept .now)) (pushArgs (a .channels) x y (a .left-data .now) (a .right-data .now) (a .last)) (a .lent .now) in
-    let both : o (l .side-in .result) (r .side-in2 .result) ≡ o (sideIn (a .left .now) 0) (sideIn (a .right .now) 0) = λ i. o (l .side-in .ensures .0 i) (r .side-in2 .ensures .0 i) in
-    let q = u .push-kept .ensures .0 ∙ ap (onKept (a .kept .now)) both in
-    let b = u .push-kept .ensures .1 .0 ∙ ap (lentAfter (a .kept .now) (a .lent .now)) both in
-    (ap (λ (x : KeptCall). x .number) q, (left _ _ _ (c .if1 .left), (left _ _ _ (c .if1 .left), (b, (u .push-kept .ensures .1 .1 .0, (u .push-kept .ensures .1 .1 .1 .0, u .push-kept .ensures .1 .1 .1 .1 ∙ ap (recordAfter (a .kept .now)) both))))))
+    let z = c .if2 .taken in
+    let p = past _ z (eqb (streamIn (start u .args .kept .now) .slot) 0) 253 (call u) in
+    (numbered u, given _ _ _ z (ap (λ (x : KeptCall). x .offset) p), given _ _ _ z (ap (λ (x : KeptCall). x .length) p), lent-after u, kept-after u, writer-after u)
+
+same-length-4 : tie.Need-same-length-4
+same-length-4 c = search needs
+
+same-length-5 : tie.Need-same-length-5
+same-length-5 c = search needs
+
+returns-3 : tie.Need-returns-3
+returns-3 c =
+    let u = c .before .before .before .before .before .before in
+    (numbered u, left _ _ _ (c .if2 .left), left _ _ _ (c .if2 .left), lent-after u, kept-after u, writer-after u)
 
 pub hps-push-spec : {M : Type 1} → statement M
 hps-push-spec =
     tie.close
     (tie.spec
+    sides-short-requires
+    without-side-requires
+    same-length
+    returns
     side-in-requires
     side-in-requires-2
     push-kept-requires
-    same-length
     same-length-2
-    returns
     same-length-3
+    returns-2
     same-length-4
-    returns-2)
+    same-length-5
+    returns-3)

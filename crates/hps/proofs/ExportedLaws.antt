@@ -89,9 +89,12 @@ module _ (r : HpsReader) where
 
 -- ---- The listing
 
-pub listed : {s : List ℕ} {r : HpsReader} {stage : Stage} {before after : List ℕ} {q : Line} → FilledIs s r stage before after q → linesFrom s r stage ≡ listingLines s
-    → (q .length ≡ length (linesFitting (length before) (listingLines s))) × (after ≡ putAt before 0 (linesFitting (length before) (listingLines s)))
-listed f e = rw (← e) (f .long, f .put)
+module _ {s : List ℕ} {r : HpsReader} {stage : Stage} {before after : List ℕ} {q : Line} (f : FilledIs s r stage before after q) (e : linesFrom s r stage ≡ listingLines s) where
+  pub listed-long : q .length ≡ length (linesFitting (length before) (listingLines s))
+  listed-long = rw (← e) (f .long)
+
+  pub listed-put : after ≡ putAt before 0 (linesFitting (length before) (listingLines s))
+  listed-put = rw (← e) (f .put)
 
 -- ---- Loading calls
 

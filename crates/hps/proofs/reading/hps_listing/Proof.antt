@@ -1,5 +1,5 @@
 use borrow.Author.Needs.{needs}
-use Rattle.hps.proofs.ExportedLaws.{listed}
+use Rattle.hps.proofs.ExportedLaws.{listed-long, listed-put}
 use Rattle.hps.proofs.reading.hps_listing.Statement.{statement}
 use Rattle.hps.proofs.reading.hps_listing.Tie as tie
 
@@ -13,7 +13,7 @@ same-length : tie.Need-same-length
 same-length c = search needs
 
 returns : tie.Need-returns
-returns c = listed (c .before .before .fill .ensures) (c .before .before .before .before .before .start-listing .ensures .0)
+returns c = (search (listed-long, needs), search (listed-put, needs))
 
 pub hps-listing-spec : {M : Type 1} → statement M
 hps-listing-spec = tie.close (tie.spec start-listing-requires fill-requires same-length returns)

@@ -46,9 +46,25 @@ module _ (s : List ℕ) (at : ℕ) where
     unfolding readHeader
     cues-out h = answer-out s (at + (32 + P (8 * getD s (at + 28) 0))) (headerAt s at) (rw (← (c .is)) (omega (arith, filled n)))
 
-    pub header-made : {size end next : ℕ} {l r : FrameContext} → Got s (at + 4) (u32At s at) size → Got s (at + 4 + 4) (u32At s (at + 4)) end → Got s (at + 8 + 4) (u32At s (at + 8)) next
-        → Got s (at + 12 + 6) (contextAt s (at + 12)) l → Got s (at + 20 + 6) (contextAt s (at + 20)) r → at + (32 + (n + 3) / 4 * 32) ≤ length s
-        → _≡_ {A = Read BlockHeader} (Read.value (record { size = size; «end_address» = end; «next_offset» = next; left = l; right = r; cues = n })) (readHeader s at)
-    unfolding readHeader headerAt
-    header-made a b d l r i =
-        answer-in s (at + (32 + P (8 * getD s (at + 28) 0))) (headerAt s at) (rw (← (c .is)) (omega (arith, filled n))) (rw (a .is, b .is, d .is, l .is, r .is, c .is))
+    pub header-made : {size end next p q : ℕ} {x y z w : ℤ} → (size ≡ u32At s at) × ((end ≡ u32At s (at + 4)) × (next ≡ u32At s (at + 8)))
+        → Got s (at + 12 + 2) (u16At s (at + 12)) p → Got s (at + 14 + 2) (i16At s (at + 14)) x → Got s (at + 16 + 2) (i16At s (at + 16)) y
+        → Got s (at + 20 + 2) (u16At s (at + 20)) q → Got s (at + 22 + 2) (i16At s (at + 22)) z → Got s (at + 24 + 2) (i16At s (at + 24)) w
+        → SFits w16 x → SFits w16 y → SFits w16 z → SFits w16 w → at + (32 + (n + 3) / 4 * 32) ≤ length s
+        → _≡_ {A = Read BlockHeader}
+        (Read.value (record {
+          size = size;
+          «end_address» = end;
+          «next_offset» = next;
+          left = record { «predictor_and_scale» = p; last = toZ w16 (ofZ w16 x); oldest = toZ w16 (ofZ w16 y) };
+          right = record { «predictor_and_scale» = q; last = toZ w16 (ofZ w16 z); oldest = toZ w16 (ofZ w16 w) };
+          cues = n;
+        }))
+        (readHeader s at)
+    unfolding readHeader headerAt contextAt
+    header-made k a b d e f g fx fy fz fw i =
+        let e14 : at + 12 + 2 ≡ at + 14 = omega arith in
+        let e16 : at + 12 + 4 ≡ at + 16 = omega arith in
+        let e22 : at + 20 + 2 ≡ at + 22 = omega arith in
+        let e24 : at + 20 + 4 ≡ at + 24 = omega arith in
+        answer-in s (at + (32 + P (8 * getD s (at + 28) 0))) (headerAt s at) (rw (← (c .is)) (omega (arith, filled n)))
+        (rw (e14, e16, e22, e24, toZ-ofZ fx, toZ-ofZ fy, toZ-ofZ fz, toZ-ofZ fw, k .0, k .1 .0, k .1 .1, a .is, b .is, d .is, e .is, f .is, g .is, c .is))

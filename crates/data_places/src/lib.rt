@@ -7,7 +7,7 @@ use records::block::read_header;
 use sizes::address_to_byte_up;
 use sizes::align;
 ghost use mathlib.Core.Path.{_≡_};
-ghost use Rattle.layout.specs.Answers.{numberOf};
+ghost use Rattle.layout.specs.Answers.{refusalOf};
 ghost use Rattle.data_places.specs.DataPlaces.{dataSays, dataPlaced, dataFound};
 
 // A block's length and context in a channel, and where its data lies.
@@ -25,7 +25,7 @@ pub enum DataRead {
 
 impl DataRead {
     pub fn number(self) -> u32
-        ensures { λ n. ⌜ n ≡ numberOf (dataSays self) ⌝ }
+        ensures { λ n. ⌜ n ≡ refusalOf (dataSays self) ⌝ }
     {
         match self {
             DataRead::Value(_) => 0,

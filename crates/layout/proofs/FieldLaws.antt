@@ -9,7 +9,7 @@ use lib.Dec.{leb}
 use borrow.Author.Tests.{leb-true, leb-false, le-leb, lt-leb}
 use Rattle.layout.specs.Choice.{pick}
 use Rattle.layout.specs.Records.{Read, field, on}
-use Rattle.layout.specs.Answers.{numberOf, u8Says, u16Says, u32Says, i16Says, i32Says, contextSays, headerSays, cueSays, formatSays, answerSays}
+use Rattle.layout.specs.Answers.{refusalOf, u8Says, u16Says, u32Says, i16Says, i32Says, contextSays, headerSays, cueSays, formatSays, answerSays}
 use Rattle.layout.specs.declared.fields.U8Read.{U8Read}
 use Rattle.layout.specs.declared.fields.U16Read.{U16Read}
 use Rattle.layout.specs.declared.fields.U32Read.{U32Read}
@@ -115,8 +115,8 @@ module _ {A B : Type 0} {says : B → Read A} {v : A → B} {none : ℕ → B} (
   short-read {n = n} e f = sym e ∙ ap says f ∙ k .refused n
 
   -- the same, with the number that is handed on
-  pub number-read : {q : Read A} {r : B} {n m : ℕ} → says r ≡ q → r ≡ none n → m ≡ numberOf (says r) → q ≡ Read.refused m
-  number-read {n = n} e f g = short-read e f ∙ ap Read.refused (sym (g ∙ ap numberOf (ap says f ∙ k .refused n)))
+  pub number-read : {q : Read A} {r : B} {n m : ℕ} → says r ≡ q → r ≡ none n → m ≡ refusalOf (says r) → q ≡ Read.refused m
+  number-read {n = n} e f g = short-read e f ∙ ap Read.refused (sym (g ∙ ap refusalOf (ap says f ∙ k .refused n)))
 
   pub got : {s : List ℕ} {past : ℕ} {a x : A} {r : B} → says r ≡ field s past a → r ≡ v x → Got s past a x
   got {s} {past} {a} {x} e f = field-value s past a x (value-read e f)
@@ -126,7 +126,7 @@ module _ {A B : Type 0} {says : B → Read A} {v : A → B} {none : ℕ → B} (
   short {s} {past} {a} {n = n} e f = field-refused s past a n (short-read e f)
 
   -- the same, with the number that is handed on
-  pub missed : {s : List ℕ} {past : ℕ} {a : A} {r : B} {n m : ℕ} → says r ≡ field s past a → r ≡ none n → m ≡ numberOf (says r) → Missed s past a m
+  pub missed : {s : List ℕ} {past : ℕ} {a : A} {r : B} {n m : ℕ} → says r ≡ field s past a → r ≡ none n → m ≡ refusalOf (says r) → Missed s past a m
   missed {s} {past} {a} {m = m} e f g = field-refused s past a m (number-read e f g)
 
 -- an answer whose value stands beside it
@@ -134,7 +134,7 @@ module _ {A : Type 0} {q : Read A} {a : ReadAnswer} (v : A) (e : on (answerSays 
   pub beside-read : a ≡ ReadAnswer.Value → q ≡ Read.value v
   beside-read f = sym e ∙ rw f
 
-  pub beside-number : {n m : ℕ} → a ≡ ReadAnswer.Refused n → m ≡ numberOf (answerSays a) → q ≡ Read.refused m
+  pub beside-number : {n m : ℕ} → a ≡ ReadAnswer.Refused n → m ≡ refusalOf (answerSays a) → q ≡ Read.refused m
   beside-number f g = sym e ∙ rw (f, g, f)
 
 -- ---- The answer that a read comes to

@@ -79,9 +79,9 @@ channelSays r = on (answerSays (r .answer)) Read.refused (λ t. Read.value (r .c
 -- ---- Handing on
 
 -- The number of a refused read, 0 of a value.
-abbrev pub numberOf : {A : Type 0} → Read A → ℕ
-numberOf (Read.refused n) = n
-numberOf (Read.value a) = 0
+abbrev pub refusalOf : {A : Type 0} → Read A → ℕ
+refusalOf (Read.refused n) = n
+refusalOf (Read.value a) = 0
 
 -- The value of a read, or this where it is refused.
 abbrev pub valueOr : {A : Type 0} → A → Read A → A

@@ -5,7 +5,7 @@ use crate::CuePoint;
 use crate::DspFormat;
 use crate::FrameContext;
 ghost use mathlib.Core.Path.{_≡_};
-ghost use Rattle.layout.specs.Answers.{numberOf, contextSays, headerSays, cueSays, formatSays, answerSays, magicSays};
+ghost use Rattle.layout.specs.Answers.{refusalOf, contextSays, headerSays, cueSays, formatSays, answerSays, magicSays};
 
 pub enum ContextRead {
     Value(FrameContext),
@@ -14,7 +14,7 @@ pub enum ContextRead {
 
 impl ContextRead {
     pub fn number(self) -> u32
-        ensures { λ n. ⌜ n ≡ numberOf (contextSays self) ⌝ }
+        ensures { λ n. ⌜ n ≡ refusalOf (contextSays self) ⌝ }
     {
         match self {
             ContextRead::Value(_) => 0,
@@ -30,7 +30,7 @@ pub enum HeaderRead {
 
 impl HeaderRead {
     pub fn number(self) -> u32
-        ensures { λ n. ⌜ n ≡ numberOf (headerSays self) ⌝ }
+        ensures { λ n. ⌜ n ≡ refusalOf (headerSays self) ⌝ }
     {
         match self {
             HeaderRead::Value(_) => 0,
@@ -46,7 +46,7 @@ pub enum CueRead {
 
 impl CueRead {
     pub fn number(self) -> u32
-        ensures { λ n. ⌜ n ≡ numberOf (cueSays self) ⌝ }
+        ensures { λ n. ⌜ n ≡ refusalOf (cueSays self) ⌝ }
     {
         match self {
             CueRead::Value(_) => 0,
@@ -62,7 +62,7 @@ pub enum FormatRead {
 
 impl FormatRead {
     pub fn number(self) -> u32
-        ensures { λ n. ⌜ n ≡ numberOf (formatSays self) ⌝ }
+        ensures { λ n. ⌜ n ≡ refusalOf (formatSays self) ⌝ }
     {
         match self {
             FormatRead::Value(_) => 0,
@@ -79,7 +79,7 @@ pub enum ReadAnswer {
 
 impl ReadAnswer {
     pub fn number(self) -> u32
-        ensures { λ n. ⌜ n ≡ numberOf (answerSays self) ⌝ }
+        ensures { λ n. ⌜ n ≡ refusalOf (answerSays self) ⌝ }
     {
         match self {
             ReadAnswer::Value => 0,
@@ -105,7 +105,7 @@ pub enum MagicRead {
 
 impl MagicRead {
     pub fn number(self) -> u32
-        ensures { λ n. ⌜ n ≡ numberOf (magicSays self) ⌝ }
+        ensures { λ n. ⌜ n ≡ refusalOf (magicSays self) ⌝ }
     {
         match self {
             MagicRead::Right => 0,

@@ -7,7 +7,7 @@ ghost use lib.Dec.{leb};
 ghost use mir.Syntax.{w16, w32};
 ghost use mir.Val.{toZ};
 ghost use Rattle.layout.specs.Records.{u16At, u32At, i16At, field};
-ghost use Rattle.layout.specs.Answers.{numberOf, u8Says, u16Says, u32Says, i16Says, i32Says};
+ghost use Rattle.layout.specs.Answers.{refusalOf, u8Says, u16Says, u32Says, i16Says, i32Says};
 
 pub enum U8Read {
     Value(u8),
@@ -16,7 +16,7 @@ pub enum U8Read {
 
 impl U8Read {
     pub fn number(self) -> u32
-        ensures { λ n. ⌜ n ≡ numberOf (u8Says self) ⌝ }
+        ensures { λ n. ⌜ n ≡ refusalOf (u8Says self) ⌝ }
     {
         match self {
             U8Read::Value(_) => 0,
@@ -32,7 +32,7 @@ pub enum U16Read {
 
 impl U16Read {
     pub fn number(self) -> u32
-        ensures { λ n. ⌜ n ≡ numberOf (u16Says self) ⌝ }
+        ensures { λ n. ⌜ n ≡ refusalOf (u16Says self) ⌝ }
     {
         match self {
             U16Read::Value(_) => 0,
@@ -48,7 +48,7 @@ pub enum U32Read {
 
 impl U32Read {
     pub fn number(self) -> u32
-        ensures { λ n. ⌜ n ≡ numberOf (u32Says self) ⌝ }
+        ensures { λ n. ⌜ n ≡ refusalOf (u32Says self) ⌝ }
     {
         match self {
             U32Read::Value(_) => 0,
@@ -64,7 +64,7 @@ pub enum I16Read {
 
 impl I16Read {
     pub fn number(self) -> u32
-        ensures { λ n. ⌜ n ≡ numberOf (i16Says self) ⌝ }
+        ensures { λ n. ⌜ n ≡ refusalOf (i16Says self) ⌝ }
     {
         match self {
             I16Read::Value(_) => 0,
@@ -80,7 +80,7 @@ pub enum I32Read {
 
 impl I32Read {
     pub fn number(self) -> u32
-        ensures { λ n. ⌜ n ≡ numberOf (i32Says self) ⌝ }
+        ensures { λ n. ⌜ n ≡ refusalOf (i32Says self) ⌝ }
     {
         match self {
             I32Read::Value(_) => 0,

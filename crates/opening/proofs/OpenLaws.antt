@@ -9,7 +9,7 @@ use borrow.Author.Tests.{lt-ltb, le-ltb}
 use Rattle.layout.specs.Choice.{pick}
 use Rattle.layout.specs.Records.{u32At, Read, field, on, readChannel, noChannel, magic, readMagic}
 use Rattle.layout.specs.Refusals.{wrongCount, blockLimit, slotLimit}
-use Rattle.layout.specs.Answers.{numberOf, magicSays}
+use Rattle.layout.specs.Answers.{refusalOf, magicSays}
 use Rattle.layout.specs.declared.Channel.{Channel}
 use Rattle.layout.specs.declared.answers.MagicRead.{MagicRead}
 use Rattle.reader.specs.declared.LoopStart.{LoopStart}
@@ -76,7 +76,7 @@ module _ {q : Read (List ℕ)} {r : MagicRead} (e : magicSays r ≡ q) where
   pub magic-right : r ≡ MagicRead.Right → q ≡ Read.value magic
   magic-right f = sym e ∙ ap magicSays f
 
-  pub magic-refused : {n m : ℕ} → r ≡ MagicRead.Refused n → m ≡ numberOf (magicSays r) → q ≡ Read.refused m
+  pub magic-refused : {n m : ℕ} → r ≡ MagicRead.Refused n → m ≡ refusalOf (magicSays r) → q ≡ Read.refused m
   magic-refused f g = sym e ∙ rw (f, g, f)
 
 -- ---- The walk

@@ -7,7 +7,7 @@ use lib.ListN.{length, getD}
 use lib.Dec.{leb}
 use borrow.Author.Tests.{leb-true, leb-false}
 use Rattle.layout.specs.Records.{P, Read, headerAt, readHeader}
-use Rattle.layout.specs.Answers.{numberOf, headerSays}
+use Rattle.layout.specs.Answers.{refusalOf, headerSays}
 use Rattle.layout.specs.declared.BlockHeader.{BlockHeader}
 use Rattle.layout.specs.declared.answers.HeaderRead.{HeaderRead}
 use Rattle.layout.proofs.Cases.{by-cases}
@@ -21,7 +21,7 @@ module _ (s : List ℕ) (o : ℕ) {q : HeaderRead} (e : headerSays q ≡ readHea
   header-short f = short-read header e f
 
   -- the same, with the number that is handed on
-  pub header-refused : {n m : ℕ} → q ≡ HeaderRead.Refused n → m ≡ numberOf (headerSays q) → readHeader s o ≡ Read.refused m
+  pub header-refused : {n m : ℕ} → q ≡ HeaderRead.Refused n → m ≡ refusalOf (headerSays q) → readHeader s o ≡ Read.refused m
   header-refused f g = number-read header e f g
 
 -- it is the one at the offset

@@ -67,7 +67,6 @@ pub fn put_opened(kept: &mut [u8], s: &[u8], r: HpsReader)
     put_u32(kept, BLOCKS_AT, (r.blocks % 4294967296) as u32);
     let start = r.loop_start;
     put_u32(kept, LOOP_AT, loop_number(start));
-    let offsets = r.offsets;
-    put_offsets(kept, &offsets, r.blocks);
+    put_offsets(kept, &r.offsets, r.blocks);
     put_zeros(kept, OFFSETS_AT + 4 * r.blocks, OFFSETS_SIZE - 4 * r.blocks);
 }

@@ -15,8 +15,8 @@ use Rattle.puts.proofs.put_u32.Reads as put-u32-reads
 use Rattle.puts.proofs.put_zeros.Reads as put-zeros-reads
 
 -- the record has the offsets of its blocks
-table : (z : tie.Start) → z .args .r .blocks ≤ length (z .args .r .offsets)
-table z = omega (arith, shaped (z .args .r) _ (z .good .1 .1 .0) .offsets, z .pre .0 .blocks)
+table : (z : tie.Start) → z .args .t3 .blocks ≤ length (z .args .t3 .offsets)
+table z = omega (arith, shaped (z .args .t3) _ (z .good .1 .1 .0) .offsets, z .pre .0 .blocks)
 
 put-file-requires : tie.Need-put-file-requires
 put-file-requires c κs = search needs
@@ -33,11 +33,8 @@ loop-number-requires c κs = search needs
 put-u32-requires-2 : tie.Need-put-u32-requires-2
 put-u32-requires-2 c κs = search needs
 
-slice-aggregate-put-offsets : tie.Need-slice-aggregate-put-offsets
-slice-aggregate-put-offsets c = search needs
-
 put-offsets-requires : tie.Need-put-offsets-requires
-put-offsets-requires c κs = let z = c .before .before .before .before .before .before .before .before .before .before .before .before .before .before .before .before .before .before .before in (z .pre .0 .blocks, table z, search needs)
+put-offsets-requires c κs = search needs
 
 mul-put-zeros : tie.Need-mul-put-zeros
 mul-put-zeros c = search needs
@@ -59,13 +56,13 @@ same-length c = search needs
 
 returns : tie.Need-returns
 returns c =
-    let z = c .before .before .before .before .before .before .before .before .before .before .before .before .before .before .before .before .before .before .before .before .before .before .before .before .before .before .before .before in
+    let z = c .before .before .before .before .before .before .before .before .before .before .before .before .before .before .before .before .before .before .before .before .before .before .before .before .before .before in
     opened-put _ _ _ _ _ _ (z .pre .0) (table z) (z .pre .1 .0) (z .pre .1 .1)
-    (c .before .before .before .before .before .before .before .before .before .before .before .before .before .before .before .before .before .before .before .before .before .before .before .before .put-file .ensures)
-    (c .before .before .before .before .before .before .before .before .before .before .before .before .before .before .before .before .before .before .before .put-u32 .ensures)
-    (c .before .before .before .before .before .before .before .before .before .before .before .before .before .before .before .loop-number .ensures)
-    (c .before .before .before .before .before .before .before .before .before .before .before .before .before .before .put-u322 .ensures)
-    (c .before .before .before .before .before .before .before .before .put-offsets .ensures)
+    (c .before .before .before .before .before .before .before .before .before .before .before .before .before .before .before .before .before .before .before .before .before .before .put-file .ensures)
+    (c .before .before .before .before .before .before .before .before .before .before .before .before .before .before .before .before .before .before .put-u32 .ensures)
+    (c .before .before .before .before .before .before .before .before .before .before .before .before .before .before .loop-number .ensures)
+    (c .before .before .before .before .before .before .before .before .before .before .before .before .before .put-u322 .ensures)
+    (c .before .before .before .before .before .before .put-offsets .ensures)
     (c .before .before .put-zeros .ensures)
 
 pub put-opened-spec : {M : Type 1} → statement M
@@ -77,7 +74,6 @@ put-opened-spec =
     put-u32-requires
     loop-number-requires
     put-u32-requires-2
-    slice-aggregate-put-offsets
     put-offsets-requires
     mul-put-zeros
     add-put-zeros

@@ -39,10 +39,11 @@ pub extern "C" fn hps_open(slot: &[u8], kept: &mut [u8]) -> u32
     let call = open(slot);
     let reply = call.reply;
     let r = call.reader;
+    let start = r.loop_start;
     match reply {
         OpenReply::Refused(number) => number,
         OpenReply::Opened => {
-            put_opened(kept, slot, r);
+            put_opened(kept, slot, r.count, r.blocks, start, &call.reader.offsets);
             0
         }
     }

@@ -12,10 +12,9 @@ use Rattle.layout.specs.Puts.{putAt}
 use Rattle.layout.specs.Records.{be32}
 use Rattle.layout.proofs.Lengths.{be32-length}
 use Rattle.puts.proofs.PutLaws.{Put, put-then, putAt-none, putAt-length}
-use Rattle.reader.specs.OpeningAndReading.{Readable}
-use Rattle.reader.specs.declared.HpsReader.{HpsReader}
+use Rattle.reader.specs.declared.LoopStart.{LoopStart}
 use Rattle.kept_reader.proofs.ReadBackLaws.{offsets-length, file-length}
-use Rattle.kept_reader.specs.KeptReader.{loopNumber, fileKept, offsetsKept, openedBytes}
+use Rattle.kept_reader.specs.KeptReader.{loopNumber, fileKept, offsetsKept, openedParts}
 
 -- ---- Offsets
 
@@ -75,20 +74,18 @@ module _ (k : List ℕ) {k′ : List ℕ} (s : List ℕ) (count : ℕ) where
 
 -- ---- The record
 
-pub opened-put : (k k1 k2 k3 k4 : List ℕ) {k5 : List ℕ} (s : List ℕ) {r : HpsReader} {number : ℕ} → Readable r → r .blocks ≤ length (r .offsets) → 128 ≤ length s → 2184 ≤ length k → k1 ≡ putAt k 0 (fileKept s (r .count))
-    → k2 ≡ putAt k1 128 (be32 (r .blocks % 4294967296)) → number ≡ loopNumber (r .«loop_start»)
-    → k3 ≡ putAt k2 132 (be32 number) → k4 ≡ putAt k3 136 (concat be32 (take (r .blocks) (r .offsets)))
-    → k5 ≡ putAt k4 (136 + 4 * r .blocks) (replicate (2048 - 4 * r .blocks) 0) → k5 ≡ putAt k 0 (openedBytes s r)
-unfolding openedBytes offsetsKept
-opened-put k k1 k2 k3 k4 {k5} s {r} ok t h g e1 e2 l e3 e4 e5 =
-    let b = ok .blocks in
-    let m : r .blocks % 4294967296 ≡ r .blocks = omega arith in
-    let n : length (concat be32 (take (r .blocks) (r .offsets))) ≡ 4 * r .blocks = offsets-length _ ∙ ap (λ (m : ℕ). 4 * m) (length-take-le (r .blocks) (r .offsets) t) in
-    let p : Put k 0 128 (fileKept s (r .count)) k1 = record { size = file-length s (r .count) h; is = e1 } in
-    let q = put-then p (be32 (r .blocks)) (be32-length (r .blocks)) (e2 ∙ ap (λ (x : ℕ). putAt k1 128 (be32 x)) m) refl (omega arith) in
-    let u = put-then q (be32 (loopNumber (r .«loop_start»))) (be32-length _) (e3 ∙ ap (λ (x : ℕ). putAt k2 132 (be32 x)) l) refl (omega arith) in
-    let z : 2048 - 4 * r .blocks ≡ 4 * (512 - r .blocks) = omega arith in
+pub opened-put : (k k1 k2 k3 k4 : List ℕ) {k5 : List ℕ} (s : List ℕ) (count n : ℕ) (start : LoopStart) (os : List ℕ) {number : ℕ} → n ≤ 512 → n ≤ length os → 128 ≤ length s → 2184 ≤ length k
+    → k1 ≡ putAt k 0 (fileKept s count) → k2 ≡ putAt k1 128 (be32 (n % 4294967296)) → number ≡ loopNumber start → k3 ≡ putAt k2 132 (be32 number)
+    → k4 ≡ putAt k3 136 (concat be32 (take n os)) → k5 ≡ putAt k4 (136 + 4 * n) (replicate (2048 - 4 * n) 0) → k5 ≡ putAt k 0 (openedParts s count n start os)
+unfolding openedParts offsetsKept
+opened-put k k1 k2 k3 k4 {k5} s count n start os b t h g e1 e2 l e3 e4 e5 =
+    let m : n % 4294967296 ≡ n = omega arith in
+    let long : length (concat be32 (take n os)) ≡ 4 * n = offsets-length _ ∙ ap (λ (m : ℕ). 4 * m) (length-take-le n os t) in
+    let p : Put k 0 128 (fileKept s count) k1 = record { size = file-length s count h; is = e1 } in
+    let q = put-then p (be32 n) (be32-length n) (e2 ∙ ap (λ (x : ℕ). putAt k1 128 (be32 x)) m) refl (omega arith) in
+    let u = put-then q (be32 (loopNumber start)) (be32-length _) (e3 ∙ ap (λ (x : ℕ). putAt k2 132 (be32 x)) l) refl (omega arith) in
+    let z : 2048 - 4 * n ≡ 4 * (512 - n) = omega arith in
     let m3 : length k3 ≡ length k = ap length (u .is) ∙ putAt-length _ _ _ in
-    let v : Put k3 136 (4 * r .blocks) (concat be32 (take (r .blocks) (r .offsets))) k4 = record { size = n; is = e4 } in
-    let o = put-then v (replicate (4 * (512 - r .blocks)) 0) (length-replicate {A = ℕ} (4 * (512 - r .blocks)) 0) (e5 ∙ ap (λ (x : ℕ). putAt k4 (136 + 4 * r .blocks) (replicate x 0)) z) refl (omega arith) in
-    put-then u (concat be32 (take (r .blocks) (r .offsets)) ++ replicate (4 * (512 - r .blocks)) 0) (o .size) (o .is) refl (omega arith) .is
+    let v : Put k3 136 (4 * n) (concat be32 (take n os)) k4 = record { size = long; is = e4 } in
+    let o = put-then v (replicate (4 * (512 - n)) 0) (length-replicate {A = ℕ} (4 * (512 - n)) 0) (e5 ∙ ap (λ (x : ℕ). putAt k4 (136 + 4 * n) (replicate x 0)) z) refl (omega arith) in
+    put-then u (concat be32 (take n os) ++ replicate (4 * (512 - n)) 0) (o .size) (o .is) refl (omega arith) .is

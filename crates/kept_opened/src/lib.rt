@@ -6,7 +6,6 @@ use kept_reader::opened::OFFSETS_AT;
 use puts::put_bytes;
 use puts::put_u32;
 use puts::put_zeros;
-use reader::HpsReader;
 use reader::LoopStart;
 ghost use mathlib.Core.Path.{_≡_};
 ghost use Prim.Native.Nat.{_≤_};
@@ -14,8 +13,7 @@ ghost use lib.ListN.{length, take};
 ghost use Rattle.layout.specs.Lists.{concat};
 ghost use Rattle.layout.specs.Records.{be32};
 ghost use Rattle.layout.specs.Puts.{putAt};
-ghost use Rattle.reader.specs.OpeningAndReading.{Readable};
-ghost use Rattle.kept_reader.specs.KeptReader.{loopNumber, fileKept, openedBytes};
+ghost use Rattle.kept_reader.specs.KeptReader.{loopNumber, fileKept, openedParts};
 
 const FILE_SIZE: usize = 128;
 
@@ -58,15 +56,21 @@ fn put_file(kept: &mut [u8], s: &[u8], count: usize)
     put_zeros(kept, SECOND_AT, 56);
 }
 
-// The record of a slot that was opened.
-pub fn put_opened(kept: &mut [u8], s: &[u8], r: HpsReader)
-    requires { ⌜ Readable r × ((128 ≤ length (now s)) × (2184 ≤ length (now kept))) ⌝ }
-    ensures { λ _. ⌜ now (kept .exit) ≡ putAt (now (kept .entry)) 0 (openedBytes (now (s .entry)) r) ⌝ }
+// The record of a slot that was opened, by its parts: the offsets are lent, so that none is copied on the way.
+pub fn put_opened(
+    kept: &mut [u8],
+    s: &[u8],
+    count: usize,
+    blocks: usize,
+    start: LoopStart,
+    offsets: &[u32],
+)
+    requires { ⌜ (blocks ≤ 512) × ((blocks ≤ length (now offsets)) × ((128 ≤ length (now s)) × (2184 ≤ length (now kept)))) ⌝ }
+    ensures { λ _. ⌜ now (kept .exit) ≡ putAt (now (kept .entry)) 0 (openedParts (now (s .entry)) count blocks start (now (offsets .entry))) ⌝ }
 {
-    put_file(kept, s, r.count);
-    put_u32(kept, BLOCKS_AT, (r.blocks % 4294967296) as u32);
-    let start = r.loop_start;
+    put_file(kept, s, count);
+    put_u32(kept, BLOCKS_AT, (blocks % 4294967296) as u32);
     put_u32(kept, LOOP_AT, loop_number(start));
-    put_offsets(kept, &r.offsets, r.blocks);
-    put_zeros(kept, OFFSETS_AT + 4 * r.blocks, OFFSETS_SIZE - 4 * r.blocks);
+    put_offsets(kept, offsets, blocks);
+    put_zeros(kept, OFFSETS_AT + 4 * blocks, OFFSETS_SIZE - 4 * blocks);
 }

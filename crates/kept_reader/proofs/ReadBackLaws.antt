@@ -30,7 +30,7 @@ use Rattle.reader.specs.declared.HpsReader.{HpsReader}
 use Rattle.reader.specs.declared.LoopStart.{LoopStart}
 use Rattle.reader.proofs.HeaderLaws.{header-cases, header-is}
 use Rattle.reader.proofs.OpenedLaws.{Parts, opened-parts, one-or-two, not-walked, and-readable}
-use Rattle.kept_reader.specs.KeptReader.{wordAt, loopNumber, loopOf, fileKept, offsetsKept, openedBytes, offsetsIn, readerIn, ReadBack}
+use Rattle.kept_reader.specs.KeptReader.{wordAt, loopNumber, loopOf, fileKept, offsetsKept, openedParts, openedBytes, offsetsIn, readerIn, ReadBack}
 use Rattle.kept_reader.proofs.KeptReads.{word-in, first-offset, offsets-long, second-lesser, part-made}
 
 -- ---- Lengths
@@ -286,10 +286,18 @@ channel-inside s c e =
 pub opened-long : (s : List ℕ) (r : HpsReader) → opening s ≡ Opened.opened r → 128 ≤ length s
 opened-long s r e = channel-inside s _ (opened-parts s r e .right-read)
 
+made-offsets : (rate count : ℕ) (l r : Channel) (os : List ℕ) (start : LoopStart) → made rate count l r os start .blocks ≤ length (made rate count l r os start .offsets)
+unfolding made
+made-offsets rate count l r os start = simp length-append (omega arith)
+
+-- each block of a record has its offset
+pub opened-offsets : (s : List ℕ) (r : HpsReader) → opening s ≡ Opened.opened r → r .blocks ≤ length (r .offsets)
+opened-offsets s r e = let p = opened-parts s r e in rw (← (p .is)) (made-offsets (p .rate) (p .count) (p .left) (p .right) (p .offsets) (p .start))
+
 -- the bytes of a record by its parts
 bytes-are : (s : List ℕ) (rate count : ℕ) (l r : Channel) (os : List ℕ) (start : LoopStart)
     → openedBytes s (made rate count l r os start) ≡ ((fileKept s count ++ be32 (length os)) ++ be32 (loopNumber start)) ++ (concat be32 os ++ replicate (4 * (512 - length os)) 0)
-unfolding openedBytes offsetsKept made
+unfolding openedParts offsetsKept made
 bytes-are s rate count l r os start = rw (take-append-seam os (replicate (512 - length os) 0))
 
 blocks-made : (rate count : ℕ) (l r : Channel) (os : List ℕ) (start : LoopStart) → length os ≡ made rate count l r os start .blocks

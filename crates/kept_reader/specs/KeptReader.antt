@@ -57,10 +57,13 @@ fileKept s count = pick (eqb count 2) (take 128 s) (take 72 s ++ replicate 56 0)
 unfoldable pub offsetsKept : (blocks : ℕ) (offsets : List ℕ) → List ℕ
 offsetsKept n os = concat be32 (take n os) ++ replicate (4 * (blockLimit - n)) 0
 
--- The record of a slot that was opened: file header, count of blocks, loop start, the blocks' offsets.
-unfoldable pub openedBytes : List ℕ → HpsReader → List ℕ
-openedBytes s r =
-    ((fileKept s (r .count) ++ be32 (r .blocks)) ++ be32 (loopNumber (r .«loop_start»))) ++ offsetsKept (r .blocks) (r .offsets)
+-- The record of a slot that was opened, by its parts: file header, count of blocks, loop start, the blocks' offsets.
+unfoldable pub openedParts : List ℕ → (count blocks : ℕ) → LoopStart → (offsets : List ℕ) → List ℕ
+openedParts s count n start os = ((fileKept s count ++ be32 n) ++ be32 (loopNumber start)) ++ offsetsKept n os
+
+-- The same of a record.
+abbrev pub openedBytes : List ℕ → HpsReader → List ℕ
+openedBytes s r = openedParts s (r .count) (r .blocks) (r .«loop_start») (r .offsets)
 
 -- The offsets of n blocks from block i on: those from one block to another as they stand there, zeros elsewhere.
 unfoldable pub offsetsIn : List ℕ → (from to : ℕ) → (n i : ℕ) → List ℕ

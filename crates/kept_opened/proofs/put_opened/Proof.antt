@@ -1,22 +1,7 @@
-use Prim.Native.Nat.{_≤_}
-use native.Mathlib.Omega.{arith}
-use lib.ListN.{length}
-use Rattle.reader.proofs.RecordLaws.{shaped}
 use Rattle.kept_opened.proofs.KeptPuts.{opened-put}
 use borrow.Author.Needs.{needs}
 use Rattle.kept_opened.proofs.put_opened.Statement.{statement}
 use Rattle.kept_opened.proofs.put_opened.Tie as tie
-use Rattle.kept_opened.proofs.put_opened.Reads as reads
-use Rattle.kept_opened.proofs.put_opened.Lts as lts
-use Rattle.kept_opened.proofs.loop_number.Reads as loop-number-reads
-use Rattle.kept_opened.proofs.put_file.Reads as put-file-reads
-use Rattle.kept_opened.proofs.put_offsets.Reads as put-offsets-reads
-use Rattle.puts.proofs.put_u32.Reads as put-u32-reads
-use Rattle.puts.proofs.put_zeros.Reads as put-zeros-reads
-
--- the record has the offsets of its blocks
-table : (z : tie.Start) → z .args .t3 .blocks ≤ length (z .args .t3 .offsets)
-table z = omega (arith, shaped (z .args .t3) _ (z .good .1 .1 .0) .offsets, z .pre .0 .blocks)
 
 put-file-requires : tie.Need-put-file-requires
 put-file-requires c κs = search needs
@@ -56,12 +41,12 @@ same-length c = search needs
 
 returns : tie.Need-returns
 returns c =
-    let z = c .before .before .before .before .before .before .before .before .before .before .before .before .before .before .before .before .before .before .before .before .before .before .before .before .before .before in
-    opened-put _ _ _ _ _ _ (z .pre .0) (table z) (z .pre .1 .0) (z .pre .1 .1)
-    (c .before .before .before .before .before .before .before .before .before .before .before .before .before .before .before .before .before .before .before .before .before .before .put-file .ensures)
-    (c .before .before .before .before .before .before .before .before .before .before .before .before .before .before .before .before .before .before .put-u32 .ensures)
-    (c .before .before .before .before .before .before .before .before .before .before .before .before .before .before .loop-number .ensures)
-    (c .before .before .before .before .before .before .before .before .before .before .before .before .before .put-u322 .ensures)
+    let z = c .before .before .before .before .before .before .before .before .before .before .before .before .before .before .before .before .before .before .before .before .before .before .before .before in
+    opened-put _ _ _ _ _ _ _ _ _ _ (z .pre .0) (z .pre .1 .0) (z .pre .1 .1 .0) (z .pre .1 .1 .1)
+    (c .before .before .before .before .before .before .before .before .before .before .before .before .before .before .before .before .before .before .before .put-file .ensures)
+    (c .before .before .before .before .before .before .before .before .before .before .before .before .before .before .before .put-u32 .ensures)
+    (c .before .before .before .before .before .before .before .before .before .before .before .loop-number .ensures)
+    (c .before .before .before .before .before .before .before .before .before .before .put-u322 .ensures)
     (c .before .before .before .before .before .before .put-offsets .ensures)
     (c .before .before .put-zeros .ensures)
 

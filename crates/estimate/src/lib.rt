@@ -63,5 +63,7 @@ pub fn estimate(lengths: &[usize], channels: usize, p: u32) -> EstimateReply
         sum += block_estimate(channels, n);
         i += 1;
     }
-    EstimateReply::Length(sum + 32 * p as u64)
+    let cues = 32 * p as u64;
+    let length = sum + cues;
+    EstimateReply::Length(length)
 }

@@ -220,11 +220,14 @@ pub fn plan_push(
     let next = next_offset(last, loopat, s.offset + size);
     let context = left.context;
     let other = second_context(channels, right);
+    let padded = data as u32;
+    let last_address = left.length - 1;
+    let end_address = last_address as u32;
     Plan {
         due: 0,
         header: BlockHeader {
-            size: data as u32,
-            end_address: (left.length - 1) as u32,
+            size: padded,
+            end_address,
             next_offset: next,
             left: context,
             right: other,

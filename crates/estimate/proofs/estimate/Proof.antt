@@ -64,11 +64,11 @@ loop-less c = omega arith
 loop-again : tie.Need-loop-again Inv-loop μ-loop
 loop-again c = again c
 
-mul-t16 : tie.Need-mul-t16 Inv-loop μ-loop
-mul-t16 c = omega arith
+mul-cues : tie.Need-mul-cues Inv-loop μ-loop
+mul-cues c = omega arith
 
-add-t17 : tie.Need-add-t17 Inv-loop μ-loop
-add-t17 c = omega arith
+add-length : tie.Need-add-length Inv-loop μ-loop
+add-length c = omega arith
 
 returns-5 : tie.Need-returns-5 Inv-loop μ-loop
 returns-5 c = search (all-summed, needs)
@@ -92,6 +92,6 @@ estimate-spec =
     add-i
     loop-less
     loop-again
-    mul-t16
-    add-t17
+    mul-cues
+    add-length
     returns-5)

@@ -106,14 +106,14 @@ next-offset-requires c κs =
 second-context-requires : tie.Need-second-context-requires
 second-context-requires c κs = search needs
 
-cast-t28 : tie.Need-cast-t28
-cast-t28 c = record { fits = omega (arith, small (c .before .before .before .before .before .before .before .before .before)) }
+cast-padded : tie.Need-cast-padded
+cast-padded c = record { fits = omega (arith, small (c .before .before .before .before .before .before .before .before .before)) }
 
-sub-t27 : tie.Need-sub-t27
-sub-t27 c = omega (arith, early-none (c .before .before .before .before .before .before .before .before .before .before .before) .long)
+sub-last-address : tie.Need-sub-last-address
+sub-last-address c = omega (arith, early-none (c .before .before .before .before .before .before .before .before .before .before .before) .long)
 
-cast-t29 : tie.Need-cast-t29
-cast-t29 c = record { fits = omega (arith, early-none (c .before .before .before .before .before .before .before .before .before .before .before) .short) }
+cast-end-address : tie.Need-cast-end-address
+cast-end-address c = record { fits = omega (arith, early-none (c .before .before .before .before .before .before .before .before .before .before .before) .short) }
 
 returns-3 : tie.Need-returns-3
 returns-3 c =
@@ -144,7 +144,7 @@ plan-push-spec =
     add-next-offset
     next-offset-requires
     second-context-requires
-    cast-t28
-    sub-t27
-    cast-t29
+    cast-padded
+    sub-last-address
+    cast-end-address
     returns-3)

@@ -84,9 +84,14 @@ fn main() {
     };
     for (what, stream) in OPEN.iter().filter(|(w, _)| wanted(&only, w)) {
         let s = slot(stream);
-        assert_eq!(rust::opened(&s), ours::opened(&s));
-        let sides: Vec<(_, Side)> =
-            vec![("rust", Box::new(|| { black_box(rust::opened(black_box(&s))); })), ("ours", Box::new(|| { black_box(ours::opened(black_box(&s))); }))];
+        let mut record = ours::open(&s);
+        assert_eq!(rust::opened(&s), ours::opened(&s, &mut record));
+        assert_eq!(record, ours::open(&s));
+        let sides: Vec<(_, Side)> = vec![
+            ("rust", Box::new(|| { black_box(rust::opened(black_box(&s))); })),
+            ("ours", Box::new(|| { black_box(ours::opened(black_box(&s), &mut record)); })),
+            ("by value", Box::new(|| { black_box(ours::opened_by_value(black_box(&s))); })),
+        ];
         run(Measured { what: what.to_string(), sides }, &only);
     }
     if wanted(&only, READ.0) {

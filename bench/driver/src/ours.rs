@@ -7,8 +7,15 @@ pub fn open(slot: &[u8]) -> Opened {
     Opened::open(slot).unwrap()
 }
 
-pub fn opened(slot: &[u8]) -> usize {
-    black_box(open(slot)).blocks()
+/// Into a record that is lent.
+pub fn opened(slot: &[u8], record: &mut Opened) -> usize {
+    record.open_again(slot).unwrap();
+    black_box(&*record).blocks()
+}
+
+/// With the record given by value, which moves it.
+pub fn opened_by_value(slot: &[u8]) -> usize {
+    black_box(&open(slot)).blocks()
 }
 
 /// Every block of every channel: where its data lies.

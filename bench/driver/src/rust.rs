@@ -15,7 +15,7 @@ pub fn open(slot: &[u8]) -> HpsReader<'_> {
 }
 
 pub fn opened(slot: &[u8]) -> usize {
-    black_box(open(slot)).blocks().count()
+    black_box(&open(slot)).blocks().count()
 }
 
 /// Every block of every channel.

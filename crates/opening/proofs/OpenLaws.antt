@@ -1,10 +1,10 @@
 -- Opening field by field: what is still to be done after each read, and what a refused one comes to.
-use Prim.Native.Nat.{ℕ, _+_, _-_, _≤_, _<_}
+use Prim.Native.Nat.{ℕ, zero, suc, _+_, _-_, _≤_, _<_}
 use mathlib.Core.Path.{_≡_, refl, sym, ap, _∙_}
 use mathlib.Core.Bool.{Bool, true, false}
-use mathlib.Core.List.{List, [], _∷_}
+use mathlib.Core.List.{List, [], _∷_, _++_}
 use native.Mathlib.Omega.{arith}
-use lib.ListN.{length}
+use lib.ListN.{length, drop, replicate}
 use borrow.Author.Tests.{lt-ltb, le-ltb}
 use Rattle.layout.specs.Choice.{pick}
 use Rattle.layout.specs.Records.{u32At, Read, field, on, readChannel, noChannel, magic, readMagic}
@@ -20,7 +20,7 @@ use Rattle.reader.specs.declared.answers.OpenCall.{OpenCall}
 use Rattle.reader.specs.declared.answers.WalkReply.{WalkReply}
 use Rattle.reader.specs.declared.answers.Walk.{Walk}
 use Rattle.reader.specs.OpeningAndReading.{Walked, refused, walked, walkFrom, Opened, onWalk, made, opening}
-use Rattle.reader.specs.ReaderAnswers.{openCall, filled, noWalk, walkReply, walkOf, inUse}
+use Rattle.reader.specs.ReaderAnswers.{openCall, walkReply, walkOf, walkedOver, inUse}
 
 -- ---- What is still to be done
 
@@ -91,13 +91,22 @@ no-reply : (n : ℕ) (b : LoopStart) → WalkReply.Refused n ≡ walkReply b →
 no-reply n None e = let z : _≡_ {A = ℕ} 0 1 = cc in omega arith
 no-reply n (Block j) e = let z : _≡_ {A = ℕ} 0 1 = cc in omega arith
 
+drop-zeros : (k n : ℕ) → _≡_ {A = List ℕ} (drop k (replicate n 0)) (replicate (n - k) 0)
+drop-zeros zero n = let e : n ≡ n - 0 = omega arith in ap (λ (m : ℕ). replicate {A = ℕ} m 0) e
+drop-zeros (suc k) zero = let e : 0 ≡ 0 - suc k = omega arith in ap (λ (m : ℕ). replicate {A = ℕ} m 0) e
+drop-zeros (suc k) (suc n) = let e : n - k ≡ suc n - suc k = omega arith in drop-zeros k n ∙ ap (λ (m : ℕ). replicate {A = ℕ} m 0) e
+
+-- what a walk over zeros leaves: the offsets, "zeros beyond"
+zeros-beyond : (os : List ℕ) (n : ℕ) → os ++ drop (length os) (replicate n 0) ≡ os ++ replicate (n - length os) 0
+zeros-beyond os n = ap (λ (l : List ℕ). os ++ l) (drop-zeros (length os) n)
+
 module _ (rate count : ℕ) (l r : Channel) where
-  walk-ends : (x : Walked) {w : Walk} → w ≡ walkOf x → (start : LoopStart) → w .reply ≡ walkReply start
+  walk-ends : (x : Walked) {w : Walk} {os : List ℕ} → w ≡ walkOf x → os ≡ walkedOver (replicate 512 0) x → (start : LoopStart) → w .reply ≡ walkReply start
       → onWalk x (λ os start. Opened.opened (made rate count l r os start))
-      ≡ Opened.opened (record { rate = rate; count = count; channels = inUse count l r; blocks = w .count; offsets = w .offsets; «loop_start» = start })
-  unfolding made filled
-  walk-ends (refused n) {w} e start f = absurd (no-reply n start (sym (ap (λ (x : Walk). x .reply) e) ∙ f))
-  walk-ends (walked os b) {w} e start f = rw (e, same-reply b start (sym (ap (λ (x : Walk). x .reply) e) ∙ f))
+      ≡ Opened.opened (record { rate = rate; count = count; channels = inUse count l r; blocks = w .count; offsets = os; «loop_start» = start })
+  unfolding made walkedOver
+  walk-ends (refused n) {w} e d start f = absurd (no-reply n start (sym (ap (λ (x : Walk). x .reply) e) ∙ f))
+  walk-ends (walked os b) {w} e d start f = rw (e, d, zeros-beyond os 512, same-reply b start (sym (ap (λ (x : Walk). x .reply) e) ∙ f))
 
   walk-refused : (x : Walked) {w : Walk} → w ≡ walkOf x → (n : ℕ) → w .reply ≡ WalkReply.Refused n
       → onWalk x (λ os start. Opened.opened (made rate count l r os start)) ≡ Opened.refused n
@@ -106,11 +115,12 @@ module _ (rate count : ℕ) (l r : Channel) where
 
 -- ---- The record
 
-module _ (s : List ℕ) (rate count : ℕ) (l r : Channel) (e : opening s ≡ atWalk s rate count l r) {w : Walk} (f : w ≡ walkOf (walkFrom 512 s [] 128)) where
+module _ (s : List ℕ) (rate count : ℕ) (l r : Channel) (e : opening s ≡ atWalk s rate count l r) {w : Walk} {os : List ℕ}
+    (f : (w ≡ walkOf (walkFrom 512 s [] 128)) × (os ≡ walkedOver (replicate 512 0) (walkFrom 512 s [] 128))) where
   pub opens-to : {cs : List Channel} → cs ≡ inUse count l r → (start : LoopStart) → w .reply ≡ walkReply start
-      → _≡_ {A = OpenCall} (record { reply = OpenReply.Opened; reader = record { rate = rate; count = count; channels = cs; blocks = w .count; offsets = w .offsets; «loop_start» = start } })
+      → _≡_ {A = OpenCall} (record { reply = OpenReply.Opened; reader = record { rate = rate; count = count; channels = cs; blocks = w .count; offsets = os; «loop_start» = start } })
       (openCall (opening s))
-  opens-to g start h = rw (e ∙ walk-ends rate count l r (walkFrom 512 s [] 128) f start h) (rw g)
+  opens-to g start h = rw (e ∙ walk-ends rate count l r (walkFrom 512 s [] 128) (f .0) (f .1) start h) (rw g)
 
   pub walk-stops : (n : ℕ) → w .reply ≡ WalkReply.Refused n → opening s ≡ Opened.refused n
-  walk-stops n h = e ∙ walk-refused rate count l r (walkFrom 512 s [] 128) f n h
+  walk-stops n h = e ∙ walk-refused rate count l r (walkFrom 512 s [] 128) (f .0) n h

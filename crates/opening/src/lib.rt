@@ -97,14 +97,14 @@ pub fn open(s: &[u8]) -> OpenCall
     let ReadAnswer::Value = answer else {
         return refused(answer.number());
     };
-    let walk = walk_blocks(s);
+    let mut offsets = [0u32; BLOCK_LIMIT];
+    let walk = walk_blocks(s, &mut offsets);
     let end = walk.reply;
     let loop_start = match end {
         WalkReply::End => LoopStart::None,
         WalkReply::Loop(i) => LoopStart::Block(i),
         WalkReply::Refused(n) => return refused(n),
     };
-    let offsets = walk.offsets;
     let l = left.channel;
     let r = right.channel;
     let channels = in_use(count, l, r);

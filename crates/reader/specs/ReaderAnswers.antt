@@ -1,7 +1,7 @@
 -- What opening and its walk return: the struct or enum for each answer of the definitions, with zeros where nothing is given.
-use Prim.Native.Nat.{ℕ, _-_}
+use Prim.Native.Nat.{ℕ}
 use mathlib.Core.List.{List, [], _∷_, _++_}
-use lib.ListN.{length, replicate}
+use lib.ListN.{length, drop, replicate}
 use lib.Dec.{eqb}
 use Rattle.layout.specs.Choice.{pick}
 use Rattle.layout.specs.Records.{noChannel}
@@ -33,12 +33,8 @@ inUse n l r = l ∷ pick (eqb n 2) r noChannel ∷ []
 
 -- ---- The walk
 
--- "block offsets (zeros beyond)"
-unfoldable pub filled : List ℕ → List ℕ
-filled os = os ++ replicate (blockLimit - length os) 0
-
 abbrev pub noWalk : ℕ → Walk
-noWalk n = record { reply = WalkReply.Refused n; offsets = replicate blockLimit 0; count = 0 }
+noWalk n = record { reply = WalkReply.Refused n; count = 0 }
 
 abbrev pub walkReply : LoopStart → WalkReply
 walkReply None = WalkReply.End
@@ -46,4 +42,9 @@ walkReply (Block i) = WalkReply.Loop i
 
 abbrev pub walkOf : Walked → Walk
 walkOf (Walked.refused n) = noWalk n
-walkOf (Walked.walked os start) = record { reply = walkReply start; offsets = filled os; count = length os }
+walkOf (Walked.walked os start) = record { reply = walkReply start; count = length os }
+
+-- What a walk leaves of the places that it is lent: its offsets from the first place on, the others as they were; zeros where it is refused.
+unfoldable pub walkedOver : (places : List ℕ) → Walked → List ℕ
+walkedOver ps (Walked.refused n) = replicate (length ps) 0
+walkedOver ps (Walked.walked os start) = os ++ drop (length os) ps

@@ -20,8 +20,8 @@ pub enum WalkReply {
     Refused(u32),
 }
 
+// How a walk ends, and how many blocks it has.
 pub struct Walk {
     pub reply: WalkReply,
-    pub offsets: [u32; 512],
     pub count: usize,
 }

@@ -1,12 +1,13 @@
 -- The walk's loop: its invariant, and what each way out of it answers.
 use Prim.Native.Nat.{ℕ, zero, suc, _+_, _-_, _≤_, _<_}
 use mathlib.Core.Path.{_≡_, refl, sym, ap, _∙_}
-use mathlib.Core.List.{List, [], _∷_, _++_}
+use mathlib.Core.List.{List, [], _∷_, _++_, append-nil}
 use native.Mathlib.Omega.{arith}
 use native.Mathlib.Nat.{le-of-suc-le-suc, not-suc-le-zero}
 use borrow.Author.Tests.{eq-eqb, ne-eqb}
-use lib.ListN.{length, getD, set, replicate, length-append, length-replicate, List·getD-append}
-use lib.Seq.{set-at, append-snoc, getD-set-same, getD-set-other}
+use native.Mathlib.Numerals.{add-one}
+use lib.ListN.{length, getD, set, drop, replicate, length-append, length-drop, length-replicate, length-set, drop-of-length-le, List·getD-append}
+use lib.Seq.{set-at, append-snoc, drop-cons, getD-set-same, getD-set-other}
 use borrow.Author.Count.{below-more}
 use Rattle.layout.specs.Lists.{firstIndex}
 use Rattle.layout.specs.Records.{Read, readHeader}
@@ -15,7 +16,7 @@ use Rattle.reader.specs.declared.LoopStart.{LoopStart}
 use Rattle.reader.specs.declared.answers.WalkReply.{WalkReply}
 use Rattle.reader.specs.declared.answers.Walk.{Walk}
 use Rattle.reader.specs.OpeningAndReading.{firstAt, Walked, walkFrom}
-use Rattle.reader.specs.ReaderAnswers.{filled, noWalk, walkReply, walkOf}
+use Rattle.reader.specs.ReaderAnswers.{noWalk, walkReply, walkOf, walkedOver}
 use Rattle.reader.proofs.OpeningLaws.{step-end, step-loop, step-on}
 
 -- ---- The search among the offsets already walked
@@ -35,51 +36,104 @@ missing x [] f = refl
 missing x (y ∷ ys) f =
     simp (ne-eqb y x (f zero (omega arith))) (ap suc (missing x ys (λ k l. f (suc k) (omega arith))))
 
+-- ---- Lent places
+
+-- the first of the places put, the others as they were
+abbrev pub over : (seen places : List ℕ) → List ℕ
+over xs ps = xs ++ drop (length xs) ps
+
+over-long : (xs ps : List ℕ) → length xs ≤ length ps → length (over xs ps) ≡ length ps
+over-long xs ps h = omega (arith, length-append xs (drop (length xs) ps), length-drop (length xs) ps)
+
+-- the store of one more
+stored : (xs ps : List ℕ) (n x : ℕ) → length xs ≡ n → n < length ps → set (over xs ps) n x ≡ over (xs ++ (x ∷ [])) ps
+stored xs ps n x l h =
+    let m : length (xs ++ (x ∷ [])) ≡ suc n = length-append xs (x ∷ []) ∙ ap (λ (k : ℕ). k + 1) l ∙ add-one n in
+    rw (m, l, drop-cons ps n 0 h) (set-at xs (getD ps n 0) (drop (suc n) ps) x n l ∙ sym (append-snoc xs x (drop (suc n) ps)))
+
+-- one that was put
+over-at : (xs ps : List ℕ) (k : ℕ) → k < length xs → getD (over xs ps) k 0 ≡ getD xs k 0
+over-at xs ps k h = List·getD-append xs (drop (length xs) ps) 0 k h
+
+-- ---- Zeros
+
+pub record Cleared (ps offsets : List ℕ) (i : ℕ) : Type 0 where
+  pub few : i ≤ length ps
+  pub is : offsets ≡ over (replicate i 0) ps
+
+pub cleared-none : (ps : List ℕ) → Cleared ps ps 0
+cleared-none ps = record { few = omega arith; is = refl }
+
+zeros-snoc : (i : ℕ) → _≡_ {A = List ℕ} (replicate i 0 ++ (0 ∷ [])) (replicate (suc i) 0)
+zeros-snoc zero = refl
+zeros-snoc (suc i) = ap (λ (l : List ℕ). 0 ∷ l) (zeros-snoc i)
+
+module _ (ps offsets : List ℕ) (i : ℕ) (w : Cleared ps offsets i) where
+  pub cleared-long : length offsets ≡ length ps
+  cleared-long = ap length (w .is) ∙ over-long (replicate i 0) ps (omega (arith, length-replicate {A = ℕ} i 0, w .few))
+
+  pub cleared-on : i < length offsets → Cleared ps (set offsets i 0) (i + 1)
+  cleared-on h =
+      let k : i < length ps = omega (arith, cleared-long) in
+      record {
+        few = omega arith;
+        is = rw (w .is, add-one i) (stored (replicate i 0) ps i 0 (length-replicate i 0) k ∙ ap (λ (l : List ℕ). over l ps) (zeros-snoc i));
+      }
+
+  pub cleared-all : length offsets ≤ i → offsets ≡ replicate (length ps) 0
+  cleared-all h =
+      let e : i ≡ length ps = omega (arith, cleared-long, w .few) in
+      w .is ∙ rw (e, length-replicate {A = ℕ} (length ps) 0, drop-of-length-le ps {i = length ps} (omega arith)) (append-nil (replicate (length ps) 0))
+
 -- ---- The loop
 
--- the offsets walked, zeros beyond, and what is still to be walked comes to the whole
-pub record Walking (s offsets : List ℕ) (count current : ℕ) : Type 0 where
+-- the offsets walked over the places lent, and what is still to be walked comes to the whole
+pub record Walking (s places offsets : List ℕ) (count current : ℕ) : Type 0 where
   pub seen : List ℕ
   pub long : length seen ≡ count
-  pub few : count ≤ 512
-  pub is : offsets ≡ filled seen
-  pub same : walkFrom 512 s [] 128 ≡ walkFrom (512 - count) s seen current
+  pub few : count ≤ length places
+  pub is : offsets ≡ over seen places
+  pub same : walkFrom (length places) s [] 128 ≡ walkFrom (length places - count) s seen current
 
-pub walking-none : (s : List ℕ) → Walking s (replicate 512 0) 0 128
-unfolding filled
-walking-none s = record { seen = []; long = refl; few = omega arith; is = refl; same = refl }
+pub walking-none : (s places : List ℕ) → Walking s places places 0 128
+walking-none s ps =
+    let e : length ps ≡ length ps - 0 = omega arith in
+    record { seen = []; long = refl; few = omega arith; is = refl; same = ap (λ (n : ℕ). walkFrom n s [] 128) e }
 
--- the store of one more offset
-stored : (seen offsets : List ℕ) (count x : ℕ) → length seen ≡ count → count < 512 → offsets ≡ filled seen → set offsets count x ≡ filled (seen ++ (x ∷ []))
-unfolding filled
-stored seen offsets count x l h is =
-    let n : length (seen ++ (x ∷ [])) ≡ count + 1 = length-append seen (x ∷ []) ∙ ap (λ (m : ℕ). m + 1) l in
-    let e : 512 - count ≡ suc (512 - (count + 1)) = omega arith in
-    rw (is, n, l, e) (set-at seen 0 (replicate (512 - (count + 1)) 0) x count l ∙ sym (append-snoc seen x (replicate (512 - (count + 1)) 0)))
+-- What a walk is to come to: its answer, and what it leaves of the places.
+pub record Walks (s places : List ℕ) (w : Walk) (offsets : List ℕ) : Type 0 where
+  pub answer : w ≡ walkOf (walkFrom (length places) s [] 128)
+  pub left : offsets ≡ walkedOver places (walkFrom (length places) s [] 128)
 
--- an offset among those walked
-filled-at : (seen : List ℕ) (k : ℕ) → k < length seen → getD (filled seen) k 0 ≡ getD seen k 0
-unfolding filled
-filled-at seen k h = List·getD-append seen (replicate (512 - length seen) 0) 0 k h
+module _ (s ps offsets : List ℕ) (count current : ℕ) (w : Walking s ps offsets count current) where
+  pub wide : length offsets ≡ length ps
+  wide = ap length (w .is) ∙ over-long (w .seen) ps (omega (arith, w .long, w .few))
 
-module _ (s offsets : List ℕ) (count current : ℕ) (w : Walking s offsets count current) where
-  wide : length offsets ≡ 512
-  unfolding filled
-  wide =
-      rw (w .is)
-      (omega (arith, length-append (w .seen) (replicate {A = ℕ} (512 - length (w .seen)) 0), length-replicate {A = ℕ} (512 - length (w .seen)) 0, w .long, w .few))
+  pub wide-zeros : {os : List ℕ} → os ≡ replicate (length offsets) 0 → length os ≡ length ps
+  wide-zeros e = ap length e ∙ length-replicate {A = ℕ} (length offsets) 0 ∙ wide
+
+  pub wide-set : length (set offsets count current) ≡ length ps
+  wide-set = length-set offsets count current ∙ wide
+
+  -- a refused walk
+  refuses : {n : ℕ} → walkFrom (length ps) s [] 128 ≡ Walked.refused n → {q : Walk} {os : List ℕ} → q ≡ noWalk n → os ≡ replicate (length offsets) 0 → Walks s ps q os
+  unfolding walkedOver
+  refuses e f g = record { answer = rw e f; left = rw e (rw wide at g) }
 
   -- no block is left to read
-  pub at-full : 512 ≤ count → noWalk 5 ≡ walkOf (walkFrom 512 s [] 128)
+  pub at-full : length offsets ≤ count → {q : Walk} {os : List ℕ} → q ≡ noWalk 5 → os ≡ replicate (length offsets) 0 → Walks s ps q os
   unfolding walkFrom
   at-full h =
-      let e : 512 - count ≡ zero = omega (arith, w .few) in
-      sym (ap walkOf (w .same ∙ ap (λ (n : ℕ). walkFrom n s (w .seen) current) e))
+      let e : length ps - count ≡ zero = omega (arith, wide) in
+      refuses (w .same ∙ ap (λ (n : ℕ). walkFrom n s (w .seen) current) e)
 
-  module _ (h : count < 512) where
-    more : walkFrom 512 s [] 128 ≡ walkFrom (suc (512 - (count + 1))) s (w .seen) current
+  module _ (h : count < length offsets) where
+    room : count < length ps
+    room = omega (arith, wide)
+
+    more : walkFrom (length ps) s [] 128 ≡ walkFrom (suc (length ps - (count + 1))) s (w .seen) current
     more =
-        let e : 512 - count ≡ suc (512 - (count + 1)) = omega arith in
+        let e : length ps - count ≡ suc (length ps - (count + 1)) = omega (arith, room) in
         w .same ∙ ap (λ (n : ℕ). walkFrom n s (w .seen) current) e
 
     -- no offset walked is above the highest of them, one more included
@@ -87,14 +141,14 @@ module _ (s offsets : List ℕ) (count current : ℕ) (w : Walking s offsets cou
         → (k : ℕ) → k < count + 1 → getD (set offsets count current) k 0 ≤ above1
     all-higher above above1 f g e =
         below-more (λ (k : ℕ). getD (set offsets count current) k 0 ≤ above1) count (λ k l. rw (getD-set-other offsets count k current 0 (λ q. omega arith)) (omega (arith, f k l)))
-        (rw (getD-set-same offsets count current 0 (omega (arith, wide))) e)
+        (rw (getD-set-same offsets count current 0 h) e)
 
-    stops : {n : ℕ} → readHeader s current ≡ Read.refused n → walkFrom (suc (512 - (count + 1))) s (w .seen) current ≡ Walked.refused n
+    stops : {n : ℕ} → readHeader s current ≡ Read.refused n → walkFrom (suc (length ps - (count + 1))) s (w .seen) current ≡ Walked.refused n
     unfolding walkFrom
     stops e = rw e
 
-    pub at-refused : {n : ℕ} → readHeader s current ≡ Read.refused n → noWalk n ≡ walkOf (walkFrom 512 s [] 128)
-    at-refused e = sym (ap walkOf (more ∙ stops e))
+    pub at-refused : {n : ℕ} → readHeader s current ≡ Read.refused n → {q : Walk} {os : List ℕ} → q ≡ noWalk n → os ≡ replicate (length offsets) 0 → Walks s ps q os
+    at-refused e = refuses (more ∙ stops e)
 
     abbrev seen1 : List ℕ
     seen1 = w .seen ++ (current ∷ [])
@@ -102,38 +156,38 @@ module _ (s offsets : List ℕ) (count current : ℕ) (w : Walking s offsets cou
     long1 : length seen1 ≡ count + 1
     long1 = omega (arith, length-append (w .seen) (current ∷ []), w .long)
 
-    is1 : set offsets count current ≡ filled seen1
-    is1 = stored (w .seen) offsets count current (w .long) h (w .is)
+    is1 : set offsets count current ≡ over seen1 ps
+    is1 = rw (w .is) (stored (w .seen) ps count current (w .long) room)
 
     at1 : (k : ℕ) → k < count + 1 → getD (set offsets count current) k 0 ≡ getD seen1 k 0
-    at1 k l = rw is1 (filled-at seen1 k (omega (arith, long1)))
+    at1 k l = rw is1 (over-at seen1 ps k (omega (arith, long1)))
 
     -- the loop's locals make the answer
-    made1 : (start : LoopStart) → walkFrom 512 s [] 128 ≡ Walked.walked seen1 start
-        → _≡_ {A = Walk} (record { reply = walkReply start; offsets = set offsets count current; count = count + 1 }) (walkOf (walkFrom 512 s [] 128))
-    made1 start e = rw (e, is1, long1)
+    made1 : (start : LoopStart) → walkFrom (length ps) s [] 128 ≡ Walked.walked seen1 start
+        → Walks s ps (record { reply = walkReply start; count = count + 1 }) (set offsets count current)
+    unfolding walkedOver
+    made1 start e = record { answer = rw (e, long1); left = rw e is1 }
 
     module _ (b : BlockHeader) (e : readHeader s current ≡ Read.value b) where
-      pub at-end : b .«next_offset» ≡ 4294967295
-          → _≡_ {A = Walk} (record { reply = WalkReply.End; offsets = set offsets count current; count = count + 1 }) (walkOf (walkFrom 512 s [] 128))
+      pub at-end : b .«next_offset» ≡ 4294967295 → Walks s ps (record { reply = WalkReply.End; count = count + 1 }) (set offsets count current)
       at-end q = made1 LoopStart.None (more ∙ step-end _ s (w .seen) current b e q)
 
       pub at-loop : (b .«next_offset» ≡ 4294967295 → ⊥) → (i : ℕ) → i < count + 1 → getD (set offsets count current) i 0 ≡ b .«next_offset»
           → ((k : ℕ) → k < i → getD (set offsets count current) k 0 ≡ b .«next_offset» → ⊥)
-          → _≡_ {A = Walk} (record { reply = WalkReply.Loop i; offsets = set offsets count current; count = count + 1 }) (walkOf (walkFrom 512 s [] 128))
+          → Walks s ps (record { reply = WalkReply.Loop i; count = count + 1 }) (set offsets count current)
       at-loop q i l g f =
           let m : i < length seen1 = omega (arith, long1) in
           let p = found (b .«next_offset») seen1 i m (sym (at1 i l) ∙ g) (λ k n z. f k n (at1 k (omega arith) ∙ z)) in
           made1 (LoopStart.Block i) (more ∙ step-loop _ s (w .seen) current b e q i p m)
 
       pub at-next : (b .«next_offset» ≡ 4294967295 → ⊥) → ((k : ℕ) → k < count + 1 → getD (set offsets count current) k 0 ≡ b .«next_offset» → ⊥)
-          → Walking s (set offsets count current) (count + 1) (b .«next_offset»)
+          → Walking s ps (set offsets count current) (count + 1) (b .«next_offset»)
       at-next q f =
           let p = missing (b .«next_offset») seen1 (λ k l z. let m : k < count + 1 = omega (arith, long1) in f k m (at1 k m ∙ z)) in
           record {
             seen = seen1;
             long = long1;
-            few = omega arith;
+            few = omega (arith, room);
             is = is1;
             same = more ∙ step-on _ s (w .seen) current b e q p;
           }

@@ -1,6 +1,5 @@
 // The walk along the chain of blocks (document 01, "Opening and reading").
 use layout::answers::HeaderRead;
-use reader::BLOCK_LIMIT;
 use reader::END_BLOCK_OFFSET;
 use reader::FIRST_BLOCK_OFFSET;
 use reader::answers::Walk;
@@ -9,20 +8,30 @@ use records::block::read_header;
 ghost use mathlib.Core.Path.{_≡_};
 ghost use mathlib.Core.List.{[]};
 ghost use Prim.Native.Nat.{ℕ, _≤_, _<_};
+ghost use lib.ListN.{length, replicate};
 ghost use Rattle.layout.specs.Records.{firstBlockOffset};
-ghost use Rattle.layout.specs.Refusals.{blockLimit};
 ghost use Rattle.reader.specs.OpeningAndReading.{walkFrom};
-ghost use Rattle.reader.specs.ReaderAnswers.{noWalk, walkOf};
+ghost use Rattle.reader.specs.ReaderAnswers.{noWalk, walkOf, walkedOver};
 
-// A refused walk tells no offset.
-fn refused(number: u32) -> Walk
-    ensures { λ w. ⌜ w ≡ noWalk number ⌝ }
+// Zeros in all places.
+fn clear(offsets: &mut [u32])
+    ensures { λ _. ⌜ now (offsets .exit) ≡ replicate (length (now (offsets .entry))) 0 ⌝ }
 {
-    let reply = WalkReply::Refused(number);
-    let offsets = [0u32; BLOCK_LIMIT];
+    let mut i: usize = 0;
+    while i < offsets.len() {
+        offsets[i] = 0;
+        i += 1;
+    }
+}
+
+// A refused walk leaves no offset.
+fn refused(offsets: &mut [u32], number: u32) -> Walk
+    ensures { λ w. ⌜ w ≡ noWalk number ⌝ }
+    ensures { λ _. ⌜ now (offsets .exit) ≡ replicate (length (now (offsets .entry))) 0 ⌝ }
+{
+    clear(offsets);
     Walk {
-        reply,
-        offsets,
+        reply: WalkReply::Refused(number),
         count: 0,
     }
 }
@@ -43,21 +52,22 @@ fn search_from(next: u32, highest: u32, count: usize) -> usize
     0
 }
 
-// From the first block along the next offsets, until the end or a block already walked.
-pub fn walk_blocks(s: &[u8]) -> Walk
-    ensures { λ w. ⌜ w ≡ walkOf (walkFrom blockLimit (now (s .entry)) [] firstBlockOffset) ⌝ }
+// From the first block along the next offsets, until the end or a block already walked. Each block's offset is put into a lent place; a block for which
+// there is none is one too many.
+pub fn walk_blocks(s: &[u8], offsets: &mut [u32]) -> Walk
+    ensures { λ w. ⌜ w ≡ walkOf (walkFrom (length (now (offsets .entry))) (now (s .entry)) [] firstBlockOffset) ⌝ }
+    ensures { λ _. ⌜ now (offsets .exit) ≡ walkedOver (now (offsets .entry)) (walkFrom (length (now (offsets .entry))) (now (s .entry)) [] firstBlockOffset) ⌝ }
 {
-    let mut offsets = [0u32; BLOCK_LIMIT];
     let mut count: usize = 0;
     let mut current: u32 = FIRST_BLOCK_OFFSET;
     let mut highest: u32 = 0;
     let reply = 'walk: loop {
-        if count >= BLOCK_LIMIT {
-            return refused(5);
+        if count >= offsets.len() {
+            return refused(offsets, 5);
         }
         let read = read_header(s, current);
         let HeaderRead::Value(header) = read else {
-            return refused(read.number());
+            return refused(offsets, read.number());
         };
         offsets[count] = current;
         count += 1;
@@ -75,9 +85,5 @@ pub fn walk_blocks(s: &[u8]) -> Walk
         }
         current = next;
     };
-    Walk {
-        reply,
-        offsets,
-        count,
-    }
+    Walk { reply, count }
 }

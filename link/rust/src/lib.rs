@@ -23,6 +23,7 @@ fn answer(number: u32) -> Result<(), u32> {
     if number == 0 { Ok(()) } else { Err(number) }
 }
 
+#[inline]
 fn u32_at(bytes: &[u8], at: usize) -> u32 {
     u32::from_be_bytes(bytes[at..at + 4].try_into().unwrap())
 }
@@ -63,6 +64,11 @@ impl Opened {
         let mut opened = std::mem::MaybeUninit::<Opened>::uninit();
         answer(unsafe { raw::hps_open(slot.as_ptr(), slot.len(), opened.as_mut_ptr().cast(), OPENED_SIZE) })?;
         Ok(unsafe { opened.assume_init() })
+    }
+
+    /// Opens another slot into this record, which stays as it is where that slot is refused. The record's 2,184 bytes are put where they stay; `open` moves them out.
+    pub fn open_again(&mut self, slot: &[u8]) -> Result<(), u32> {
+        open_into(slot, &mut self.bytes)
     }
 
     /// The record that these bytes spell, whoever wrote them; what they do not spell is refused by the calls.
@@ -162,6 +168,7 @@ impl Opened {
 }
 
 /// A cue of what `Opened::cues` gives.
+#[inline]
 pub fn cue(bytes: &[u8]) -> Cue {
     let start = u64::from_be_bytes(bytes[..8].try_into().unwrap());
     let point = if u32_at(bytes, 8) == 0 { Some(u32_at(bytes, 12)) } else { None };

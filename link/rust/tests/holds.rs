@@ -114,6 +114,17 @@ fn opening_refuses_by_number_and_leaves_the_lent_bytes() {
     assert!(long[OPENED_SIZE..].iter().all(|b| *b == 0x5A), "bytes beyond the record were changed");
 }
 
+#[test]
+fn a_record_is_opened_again() {
+    let (slot, _, _) = loaded();
+    let opened = Opened::open(&slot).unwrap();
+    let mut record = Opened::from_bytes([0x5A; OPENED_SIZE]);
+    assert_eq!(record.open_again(&slot[..140]), Err(1));
+    assert_eq!(record, Opened::from_bytes([0x5A; OPENED_SIZE]), "a refused opening leaves the record");
+    assert_eq!(record.open_again(&slot), Ok(()));
+    assert_eq!(record, opened);
+}
+
 /// Cue calls into lent bytes of any length: their number, how many cues, and whether the cursor is as it was.
 fn cues_into(slot: &[u8], opened: &Opened, cursor: &mut [u8], out: &mut [u8]) -> (u32, usize, bool) {
     let (before, mut cues) = (cursor.to_vec(), 77);

@@ -32,9 +32,9 @@ after-left : (c : tie.After-read-channel2)
 after-left c = right-count (c .before .before .before) ∙ on-value _ _ (beside-read _ (c .before .before .before .read-channel .ensures .0) (c .before .enum-told5 .given .1))
 
 after-right : (c : tie.After-walk-blocks)
-    → (let s = now (c .before .before .before .before .before .before .before .before .before .before .before .before .before .before .before .before .before .before .before .before .before .before .args .s) in
-    opening s ≡ atWalk s (c .before .before .before .before .before .before .before .before .before .before .before .before .before .before .read .given .0 .0) (c .before .before .before .before .before .before .before .before .before .before .read2 .given .0 .0) (c .before .before .before .before .before .before .read-channel .result .channel) (c .before .before .before .read-channel2 .result .channel))
-after-right c = after-left (c .before .before .before) ∙ on-value _ _ (beside-read _ (c .before .before .before .read-channel2 .ensures .0) (c .before .enum-told7 .given .1))
+    → (let s = now (c .before .before .before .before .before .before .before .before .before .before .before .before .before .before .before .before .before .before .before .before .before .before .before .args .s) in
+    opening s ≡ atWalk s (c .before .before .before .before .before .before .before .before .before .before .before .before .before .before .before .read .given .0 .0) (c .before .before .before .before .before .before .before .before .before .before .before .read2 .given .0 .0) (c .before .before .before .before .before .before .before .read-channel .result .channel) (c .before .before .before .before .read-channel2 .result .channel))
+after-right c = after-left (c .before .before .before .before) ∙ on-value _ _ (beside-read _ (c .before .before .before .before .read-channel2 .ensures .0) (c .before .before .enum-told7 .given .1))
 
 refused-requires : tie.Need-refused-requires
 refused-requires c κs = search needs
@@ -157,6 +157,9 @@ returns-7 c =
     (after-left (c .before .before .before .before)
     ∙ on-refused _ _ (beside-number _ (c .before .before .before .before .read-channel2 .ensures .0) (c .before .before .enum-told8 .given .1) (c .before .number5 .ensures))))
 
+slice-aggregate-walk-blocks : tie.Need-slice-aggregate-walk-blocks
+slice-aggregate-walk-blocks c = search needs
+
 walk-blocks-requires : tie.Need-walk-blocks-requires
 walk-blocks-requires c κs = search needs
 
@@ -173,7 +176,7 @@ refused-requires-8 : tie.Need-refused-requires-8
 refused-requires-8 c κs = search needs
 
 returns-8 : tie.Need-returns-8
-returns-8 c = and-readable _ _ (refuses _ _ (c .refused8 .ensures) (walk-stops _ _ _ _ _ (after-right (c .before .before .before .before)) (c .before .before .before .before .walk-blocks .ensures) _ (c .before .before .end2 .given .1)))
+returns-8 c = and-readable _ _ (refuses _ _ (c .refused8 .ensures) (walk-stops _ _ _ _ _ (after-right (c .before .before .before .before .before)) (c .before .before .before .before .before .walk-blocks .ensures) _ (c .before .before .end2 .given .1)))
 
 in-use-requires : tie.Need-in-use-requires
 in-use-requires c κs = search needs
@@ -185,7 +188,7 @@ returns-9 : tie.Need-returns-9
 returns-9 c =
     and-readable _ _ (
     let opened = opens-to _ _ _ _ _ (after-right (c .before .before .before .before .before)) (c .before .before .before .before .before .walk-blocks .ensures) (c .in-use .ensures) in
-    ⊎-elim (λ w. rw (w .2) (opened LoopStart.None (w .1 .given .1))) (λ w. rw (w .3) (opened (LoopStart.Block (w .1 .given .0 .0)) (w .1 .given .1))) (c .before .before .before .before .match6 .came))
+    ⊎-elim (λ w. rw (w .2) (opened LoopStart.None (w .1 .given .1))) (λ w. rw (w .3) (opened (LoopStart.Block (w .1 .given .0 .0)) (w .1 .given .1))) (c .before .before .before .match6 .came))
 
 pub open-spec : {M : Type 1} → statement M
 open-spec =
@@ -226,6 +229,7 @@ open-spec =
     number-requires-5
     refused-requires-7
     returns-7
+    slice-aggregate-walk-blocks
     walk-blocks-requires
     enum-told-9
     enum-known-end

@@ -3,34 +3,40 @@ use mathlib.Core.Path.{_≡_, _∙_}
 use borrow.Author.Needs.{needs}
 use borrow.Author.Count.{below-more, below-none}
 use native.Mathlib.Omega.{arith}
-use lib.ListN.{getD}
+use lib.ListN.{length, getD, length-set}
 use Rattle.reader.proofs.HeaderLaws.{header-got, header-refused}
-use Rattle.walk.proofs.WalkLaws.{Walking, walking-none, at-full, at-refused, at-end, at-loop, at-next, all-higher}
+use Rattle.walk.proofs.WalkLaws.{Walking, walking-none, wide, wide-zeros, wide-set, at-full, at-refused, at-end, at-loop, at-next, all-higher}
 use Rattle.walk.proofs.walk_blocks.Statement.{statement}
 use Rattle.walk.proofs.walk_blocks.Tie as tie
 
 abbrev Inv-loop : tie.InvT-loop
-Inv-loop s offsets count current highest next i₀ i = (i ≤ count) × ((k : ℕ) → k < i → getD offsets k 0 ≡ next → ⊥)
+Inv-loop s offsets count current highest next i₀ i = (i ≤ count) × (count ≤ length offsets) × ((k : ℕ) → k < i → getD offsets k 0 ≡ next → ⊥)
 
 abbrev μ-loop : tie.MeasureT-loop
 μ-loop s offsets count current highest next i₀ i = count - i
 
 abbrev Inv-walk : tie.InvT-walk
-Inv-walk s offsets₀ count₀ current₀ highest₀ offsets count current highest = Walking s offsets count current × ((k : ℕ) → k < count → getD offsets k 0 ≤ highest)
+Inv-walk s offsets₀ count₀ current₀ highest₀ offsets count current highest = Walking s offsets₀ offsets count current × ((k : ℕ) → k < count → getD offsets k 0 ≤ highest)
 
 abbrev μ-walk : tie.MeasureT-walk
-μ-walk s offsets₀ count₀ current₀ highest₀ offsets count current highest = 512 - count
+μ-walk s offsets₀ count₀ current₀ highest₀ offsets count current highest = length offsets₀ - count
 
 walk-holds : tie.Need-walk-holds Inv-loop μ-loop Inv-walk μ-walk
-walk-holds c = (walking-none _, below-none _)
+walk-holds c = (walking-none _ _, below-none _)
 
 refused-requires : tie.Need-refused-requires Inv-loop μ-loop Inv-walk μ-walk
 refused-requires c κs = search needs
 
+same-length : tie.Need-same-length Inv-loop μ-loop Inv-walk μ-walk
+same-length c =
+    let w = c .before .before .before .before .before .walk in
+    wide-zeros _ _ (w .offsets) (w .count) (w .current) (w .inv .0) (c .before .before .refused .ensures .1)
+
 returns : tie.Need-returns Inv-loop μ-loop Inv-walk μ-walk
 returns c =
-    let w = c .before .before .walk in
-    c .refused .ensures ∙ at-full _ (w .offsets) (w .count) (w .current) (w .inv .0) (c .before .if1 .taken)
+    let w = c .before .before .before .before .before .walk in
+    let r = at-full _ _ (w .offsets) (w .count) (w .current) (w .inv .0) (c .before .before .before .before .if1 .taken) (c .before .before .refused .ensures .0) (c .before .before .refused .ensures .1) in
+    (r .answer, r .left)
 
 read-header-requires : tie.Need-read-header-requires Inv-loop μ-loop Inv-walk μ-walk
 read-header-requires c κs = search needs
@@ -47,18 +53,22 @@ number-requires c κs = search needs
 refused-requires-2 : tie.Need-refused-requires-2 Inv-loop μ-loop Inv-walk μ-walk
 refused-requires-2 c κs = search needs
 
+same-length-2 : tie.Need-same-length-2 Inv-loop μ-loop Inv-walk μ-walk
+same-length-2 c =
+    let w = c .before .before .before .before .before .before .before .before .before .walk in
+    wide-zeros _ _ (w .offsets) (w .count) (w .current) (w .inv .0) (c .before .before .refused2 .ensures .1)
+
 returns-2 : tie.Need-returns-2 Inv-loop μ-loop Inv-walk μ-walk
 returns-2 c =
-    let w = c .before .before .before .before .before .before .walk in
-    c .refused2 .ensures
-    ∙ at-refused _ (w .offsets) (w .count) (w .current) (w .inv .0) (c .before .before .before .before .before .if1 .left)
-    (header-refused _ _ (c .before .before .before .before .read-header .ensures) (c .before .before .enum-told .given .1) (c .before .number .ensures))
+    let w = c .before .before .before .before .before .before .before .before .before .walk in
+    let r = at-refused _ _ (w .offsets) (w .count) (w .current) (w .inv .0) (c .before .before .before .before .before .before .before .before .if1 .left) (header-refused _ _ (c .before .before .before .before .before .before .before .read-header .ensures) (c .before .before .before .before .before .enum-told .given .1) (c .before .before .before .number .ensures)) (c .before .before .refused2 .ensures .0) (c .before .before .refused2 .ensures .1) in
+    (r .answer, r .left)
 
 mul-offsets : tie.Need-mul-offsets Inv-loop μ-loop Inv-walk μ-walk
 mul-offsets c = search needs
 
-array-write-offsets : tie.Need-array-write-offsets Inv-loop μ-loop Inv-walk μ-walk
-array-write-offsets c = search needs
+slice-write-offsets : tie.Need-slice-write-offsets Inv-loop μ-loop Inv-walk μ-walk
+slice-write-offsets c = search needs
 
 add-count : tie.Need-add-count Inv-loop μ-loop Inv-walk μ-walk
 add-count c = search needs
@@ -73,18 +83,20 @@ loop-holds : tie.Need-loop-holds Inv-loop μ-loop Inv-walk μ-walk
 loop-holds c =
     let w = c .before .before .before .before .before .before .before .before .walk in
     let from = c .search-from .ensures in
-    let most = c .before .before .higher .ensures in (
+    let most = c .before .before .higher .ensures in
+    let room = c .before .before .before .before .before .before .before .if1 .left in (
       from .0,
+      simp length-set (omega (arith, room)),
       λ k l e.
-          let lower = all-higher _ (w .offsets) (w .count) (w .current) (w .inv .0) (c .before .before .before .before .before .before .before .if1 .left) _ _ (w .inv .1) (most .0) (most .1) k (omega (arith, from .0)) in
+          let lower = all-higher _ _ (w .offsets) (w .count) (w .current) (w .inv .0) room _ _ (w .inv .1) (most .0) (most .1) k (omega (arith, from .0)) in
           omega (arith, lower, e, from .1 k l),
     )
 
 mul-if3 : tie.Need-mul-if3 Inv-loop μ-loop Inv-walk μ-walk
 mul-if3 c = search needs
 
-array-read-if3 : tie.Need-array-read-if3 Inv-loop μ-loop Inv-walk μ-walk
-array-read-if3 c = search needs
+slice-read-if3 : tie.Need-slice-read-if3 Inv-loop μ-loop Inv-walk μ-walk
+slice-read-if3 c = search needs
 
 add-i : tie.Need-add-i Inv-loop μ-loop Inv-walk μ-walk
 add-i c = search needs
@@ -93,33 +105,43 @@ loop-less : tie.Need-loop-less Inv-loop μ-loop Inv-walk μ-walk
 loop-less c = search needs
 
 loop-again : tie.Need-loop-again Inv-loop μ-loop Inv-walk μ-walk
-loop-again c = (omega arith, below-more _ _ (c .before .before .loop .inv .1) (c .if3 .left))
+loop-again c = (omega arith, c .before .before .before .loop .inv .1, below-more _ _ (c .before .before .before .loop .inv .2) (c .if3 .left))
 
 walk-less : tie.Need-walk-less Inv-loop μ-loop Inv-walk μ-walk
-walk-less c = search needs
+walk-less c =
+    let w = c .before .before .before .before .before .before .before .before .before .before .walk in
+    omega (arith, wide _ _ (w .offsets) (w .count) (w .current) (w .inv .0), c .before .before .before .before .before .before .before .before .before .if1 .left)
 
 walk-again : tie.Need-walk-again Inv-loop μ-loop Inv-walk μ-walk
 walk-again c =
     let w = c .before .before .before .before .before .before .before .before .before .before .walk in
+    let room = c .before .before .before .before .before .before .before .before .before .if1 .left in
     let most = c .before .before .before .before .higher .ensures in (
-      at-next _ (w .offsets) (w .count) (w .current) (w .inv .0) (c .before .before .before .before .before .before .before .before .before .if1 .left) (c .before .before .before .before .before .before .read .given .0 .0)
-          (header-got _ _ (c .before .before .before .before .before .before .before .before .read-header .ensures) (c .before .before .before .before .before .before .read .given .1))
-          (c .before .before .before .if2 .left) (λ k l. c .before .loop .inv .1 k (omega arith)),
-      all-higher _ (w .offsets) (w .count) (w .current) (w .inv .0) (c .before .before .before .before .before .before .before .before .before .if1 .left) _ _ (w .inv .1) (most .0) (most .1),
+      at-next _ _ (w .offsets) (w .count) (w .current) (w .inv .0) room (c .before .before .before .before .before .before .read .given .0 .0) (header-got _ _ (c .before .before .before .before .before .before .before .before .read-header .ensures) (c .before .before .before .before .before .before .read .given .1)) (c .before .before .before .if2 .left) (λ k l. c .before .loop .inv .2 k (omega arith)),
+      all-higher _ _ (w .offsets) (w .count) (w .current) (w .inv .0) room _ _ (w .inv .1) (most .0) (most .1),
     )
+
+same-length-3 : tie.Need-same-length-3 Inv-loop μ-loop Inv-walk μ-walk
+same-length-3 c =
+    let w = c .before .before .before .before .before .before .before .walk in
+    wide-set _ _ (w .offsets) (w .count) (w .current) (w .inv .0)
 
 returns-3 : tie.Need-returns-3 Inv-loop μ-loop Inv-walk μ-walk
 returns-3 c =
     let w = c .before .before .before .before .before .before .before .walk in
-    at-end _ (w .offsets) (w .count) (w .current) (w .inv .0) (c .before .before .before .before .before .before .if1 .left) (c .before .before .before .read .given .0 .0)
-    (header-got _ _ (c .before .before .before .before .before .read-header .ensures) (c .before .before .before .read .given .1)) (c .if2 .taken)
+    let r = at-end _ _ (w .offsets) (w .count) (w .current) (w .inv .0) (c .before .before .before .before .before .before .if1 .left) (c .before .before .before .read .given .0 .0) (header-got _ _ (c .before .before .before .before .before .read-header .ensures) (c .before .before .before .read .given .1)) (c .if2 .taken) in
+    (r .answer, r .left)
+
+same-length-4 : tie.Need-same-length-4 Inv-loop μ-loop Inv-walk μ-walk
+same-length-4 c =
+    let w = c .before .before .before .before .before .before .before .before .before .before .before .before .walk in
+    wide-set _ _ (w .offsets) (w .count) (w .current) (w .inv .0)
 
 returns-4 : tie.Need-returns-4 Inv-loop μ-loop Inv-walk μ-walk
 returns-4 c =
-    let w = c .before .before .before .before .before .before .before .before .before .before .before .walk in
-    at-loop _ (w .offsets) (w .count) (w .current) (w .inv .0) (c .before .before .before .before .before .before .before .before .before .before .if1 .left) (c .before .before .before .before .before .before .before .read .given .0 .0)
-    (header-got _ _ (c .before .before .before .before .before .before .before .before .before .read-header .ensures) (c .before .before .before .before .before .before .before .read .given .1))
-    (c .before .before .before .before .if2 .left) (c .before .before .loop .i) (omega arith) (c .if3 .taken) (c .before .before .loop .inv .1)
+    let w = c .before .before .before .before .before .before .before .before .before .before .before .before .walk in
+    let r = at-loop _ _ (w .offsets) (w .count) (w .current) (w .inv .0) (c .before .before .before .before .before .before .before .before .before .before .before .if1 .left) (c .before .before .before .before .before .before .before .before .read .given .0 .0) (header-got _ _ (c .before .before .before .before .before .before .before .before .before .before .read-header .ensures) (c .before .before .before .before .before .before .before .before .read .given .1)) (c .before .before .before .before .before .if2 .left) (c .before .before .before .loop .i) (omega arith) (c .if3 .taken) (c .before .before .before .loop .inv .2) in
+    (r .answer, r .left)
 
 pub walk-blocks-spec : {M : Type 1} → statement M
 walk-blocks-spec =
@@ -131,25 +153,29 @@ walk-blocks-spec =
     μ-walk
     walk-holds
     refused-requires
+    same-length
     returns
     read-header-requires
     enum-known-read
     enum-told
     number-requires
     refused-requires-2
+    same-length-2
     returns-2
     mul-offsets
-    array-write-offsets
+    slice-write-offsets
     add-count
     higher-requires
     search-from-requires
     loop-holds
     mul-if3
-    array-read-if3
+    slice-read-if3
     add-i
     loop-less
     loop-again
     walk-less
     walk-again
+    same-length-3
     returns-3
+    same-length-4
     returns-4)

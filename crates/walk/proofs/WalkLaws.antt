@@ -68,7 +68,7 @@ zeros-snoc : (i : ℕ) → _≡_ {A = List ℕ} (replicate i 0 ++ (0 ∷ [])) (r
 zeros-snoc zero = refl
 zeros-snoc (suc i) = ap (λ (l : List ℕ). 0 ∷ l) (zeros-snoc i)
 
-module _ (ps offsets : List ℕ) (i : ℕ) (w : Cleared ps offsets i) where
+module _ {ps offsets : List ℕ} {i : ℕ} (w : Cleared ps offsets i) where
   pub cleared-long : length offsets ≡ length ps
   cleared-long = ap length (w .is) ∙ over-long (replicate i 0) ps (omega (arith, length-replicate {A = ℕ} i 0, w .few))
 
@@ -105,7 +105,7 @@ pub record Walks (s places : List ℕ) (w : Walk) (offsets : List ℕ) : Type 0 
   pub answer : w ≡ walkOf (walkFrom (length places) s [] 128)
   pub left : offsets ≡ walkedOver places (walkFrom (length places) s [] 128)
 
-module _ (s ps offsets : List ℕ) (count current : ℕ) (w : Walking s ps offsets count current) where
+module _ {s ps offsets : List ℕ} {count current : ℕ} (w : Walking s ps offsets count current) where
   pub wide : length offsets ≡ length ps
   wide = ap length (w .is) ∙ over-long (w .seen) ps (omega (arith, w .long, w .few))
 

@@ -25,7 +25,7 @@ add-i : tie.Need-add-i Inv-loop μ-loop
 add-i c = search needs
 
 loop-less : tie.Need-loop-less Inv-loop μ-loop
-loop-less c = omega (arith, cleared-long _ _ _ (c .before .loop .inv))
+loop-less c = omega (arith, cleared-long (c .before .loop .inv))
 
 loop-again : tie.Need-loop-again Inv-loop μ-loop
 loop-again c = search (cleared-on, needs)

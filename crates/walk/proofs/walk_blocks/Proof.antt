@@ -29,13 +29,13 @@ refused-requires c κs = search needs
 
 same-length : tie.Need-same-length Inv-loop μ-loop Inv-walk μ-walk
 same-length c =
-    let w = c .before .before .before .before .before .walk in
-    wide-zeros _ _ (w .offsets) (w .count) (w .current) (w .inv .0) (c .before .before .refused .ensures .1)
+    let d = c .before .before in
+    wide-zeros (d .before .before .before .walk .inv .0) (d .refused .ensures .1)
 
 returns : tie.Need-returns Inv-loop μ-loop Inv-walk μ-walk
 returns c =
-    let w = c .before .before .before .before .before .walk in
-    let r = at-full _ _ (w .offsets) (w .count) (w .current) (w .inv .0) (c .before .before .before .before .if1 .taken) (c .before .before .refused .ensures .0) (c .before .before .refused .ensures .1) in
+    let d = c .before .before in
+    let r = at-full (d .before .before .before .walk .inv .0) (d .before .before .if1 .taken) (d .refused .ensures .0) (d .refused .ensures .1) in
     (r .answer, r .left)
 
 read-header-requires : tie.Need-read-header-requires Inv-loop μ-loop Inv-walk μ-walk
@@ -55,13 +55,15 @@ refused-requires-2 c κs = search needs
 
 same-length-2 : tie.Need-same-length-2 Inv-loop μ-loop Inv-walk μ-walk
 same-length-2 c =
-    let w = c .before .before .before .before .before .before .before .before .before .walk in
-    wide-zeros _ _ (w .offsets) (w .count) (w .current) (w .inv .0) (c .before .before .refused2 .ensures .1)
+    let d = c .before .before in
+    wide-zeros (d .before .before .before .before .before .before .before .walk .inv .0) (d .refused2 .ensures .1)
 
 returns-2 : tie.Need-returns-2 Inv-loop μ-loop Inv-walk μ-walk
 returns-2 c =
-    let w = c .before .before .before .before .before .before .before .before .before .walk in
-    let r = at-refused _ _ (w .offsets) (w .count) (w .current) (w .inv .0) (c .before .before .before .before .before .before .before .before .if1 .left) (header-refused _ _ (c .before .before .before .before .before .before .before .read-header .ensures) (c .before .before .before .before .before .enum-told .given .1) (c .before .before .before .number .ensures)) (c .before .before .refused2 .ensures .0) (c .before .before .refused2 .ensures .1) in
+    let d = c .before .before in
+    let e = d .before .before .before .before .before in
+    let missing = header-refused _ _ (e .read-header .ensures) (d .before .before .before .enum-told .given .1) (d .before .number .ensures) in
+    let r = at-refused (e .before .before .walk .inv .0) (e .before .if1 .left) missing (d .refused2 .ensures .0) (d .refused2 .ensures .1) in
     (r .answer, r .left)
 
 mul-offsets : tie.Need-mul-offsets Inv-loop μ-loop Inv-walk μ-walk
@@ -81,15 +83,16 @@ search-from-requires c κs = search needs
 
 loop-holds : tie.Need-loop-holds Inv-loop μ-loop Inv-walk μ-walk
 loop-holds c =
-    let w = c .before .before .before .before .before .before .before .before .walk in
+    let e = c .before .before .before .before .before .before in
+    let w = e .before .before .walk .inv in
+    let room = e .before .if1 .left in
     let from = c .search-from .ensures in
-    let most = c .before .before .higher .ensures in
-    let room = c .before .before .before .before .before .before .before .if1 .left in (
+    let most = c .before .before .higher .ensures in (
       from .0,
       simp length-set (omega (arith, room)),
-      λ k l e.
-          let lower = all-higher _ _ (w .offsets) (w .count) (w .current) (w .inv .0) room _ _ (w .inv .1) (most .0) (most .1) k (omega (arith, from .0)) in
-          omega (arith, lower, e, from .1 k l),
+      λ k l q.
+          let lower = all-higher (w .0) room _ _ (w .1) (most .0) (most .1) k (omega (arith, from .0)) in
+          omega (arith, lower, q, from .1 k l),
     )
 
 mul-if3 : tie.Need-mul-if3 Inv-loop μ-loop Inv-walk μ-walk
@@ -105,42 +108,48 @@ loop-less : tie.Need-loop-less Inv-loop μ-loop Inv-walk μ-walk
 loop-less c = search needs
 
 loop-again : tie.Need-loop-again Inv-loop μ-loop Inv-walk μ-walk
-loop-again c = (omega arith, c .before .before .before .loop .inv .1, below-more _ _ (c .before .before .before .loop .inv .2) (c .if3 .left))
+loop-again c =
+    let l = c .before .before .before .loop .inv in
+    (omega arith, l .1, below-more _ _ (l .2) (c .if3 .left))
 
 walk-less : tie.Need-walk-less Inv-loop μ-loop Inv-walk μ-walk
 walk-less c =
-    let w = c .before .before .before .before .before .before .before .before .before .before .walk in
-    omega (arith, wide _ _ (w .offsets) (w .count) (w .current) (w .inv .0), c .before .before .before .before .before .before .before .before .before .if1 .left)
+    let e = c .before .before .before .before .before .before .before .before in
+    omega (arith, wide (e .before .before .walk .inv .0), e .before .if1 .left)
 
 walk-again : tie.Need-walk-again Inv-loop μ-loop Inv-walk μ-walk
 walk-again c =
-    let w = c .before .before .before .before .before .before .before .before .before .before .walk in
-    let room = c .before .before .before .before .before .before .before .before .before .if1 .left in
-    let most = c .before .before .before .before .higher .ensures in (
-      at-next _ _ (w .offsets) (w .count) (w .current) (w .inv .0) room (c .before .before .before .before .before .before .read .given .0 .0) (header-got _ _ (c .before .before .before .before .before .before .before .before .read-header .ensures) (c .before .before .before .before .before .before .read .given .1)) (c .before .before .before .if2 .left) (λ k l. c .before .loop .inv .2 k (omega arith)),
-      all-higher _ _ (w .offsets) (w .count) (w .current) (w .inv .0) room _ _ (w .inv .1) (most .0) (most .1),
+    let d = c .before .before .before .before .before .before in
+    let e = d .before .before in
+    let w = e .before .before .walk .inv in
+    let room = e .before .if1 .left in
+    let most = c .before .before .before .before .higher .ensures in
+    let header = header-got _ _ (e .read-header .ensures) (d .read .given .1) in (
+      at-next (w .0) room (d .read .given .0 .0) header (c .before .before .before .if2 .left) (λ k l. c .before .loop .inv .2 k (omega arith)),
+      all-higher (w .0) room _ _ (w .1) (most .0) (most .1),
     )
 
 same-length-3 : tie.Need-same-length-3 Inv-loop μ-loop Inv-walk μ-walk
-same-length-3 c =
-    let w = c .before .before .before .before .before .before .before .walk in
-    wide-set _ _ (w .offsets) (w .count) (w .current) (w .inv .0)
+same-length-3 c = wide-set (c .before .before .before .before .before .before .before .walk .inv .0)
 
 returns-3 : tie.Need-returns-3 Inv-loop μ-loop Inv-walk μ-walk
 returns-3 c =
-    let w = c .before .before .before .before .before .before .before .walk in
-    let r = at-end _ _ (w .offsets) (w .count) (w .current) (w .inv .0) (c .before .before .before .before .before .before .if1 .left) (c .before .before .before .read .given .0 .0) (header-got _ _ (c .before .before .before .before .before .read-header .ensures) (c .before .before .before .read .given .1)) (c .if2 .taken) in
+    let d = c .before .before .before in
+    let e = d .before .before in
+    let header = header-got _ _ (e .read-header .ensures) (d .read .given .1) in
+    let r = at-end (e .before .before .walk .inv .0) (e .before .if1 .left) (d .read .given .0 .0) header (c .if2 .taken) in
     (r .answer, r .left)
 
 same-length-4 : tie.Need-same-length-4 Inv-loop μ-loop Inv-walk μ-walk
-same-length-4 c =
-    let w = c .before .before .before .before .before .before .before .before .before .before .before .before .walk in
-    wide-set _ _ (w .offsets) (w .count) (w .current) (w .inv .0)
+same-length-4 c = wide-set (c .before .before .before .before .before .before .before .before .before .before .before .before .walk .inv .0)
 
 returns-4 : tie.Need-returns-4 Inv-loop μ-loop Inv-walk μ-walk
 returns-4 c =
-    let w = c .before .before .before .before .before .before .before .before .before .before .before .before .walk in
-    let r = at-loop _ _ (w .offsets) (w .count) (w .current) (w .inv .0) (c .before .before .before .before .before .before .before .before .before .before .before .if1 .left) (c .before .before .before .before .before .before .before .before .read .given .0 .0) (header-got _ _ (c .before .before .before .before .before .before .before .before .before .before .read-header .ensures) (c .before .before .before .before .before .before .before .before .read .given .1)) (c .before .before .before .before .before .if2 .left) (c .before .before .before .loop .i) (omega arith) (c .if3 .taken) (c .before .before .before .loop .inv .2) in
+    let l = c .before .before .before in
+    let d = l .before .before .before .before .before in
+    let e = d .before .before in
+    let header = header-got _ _ (e .read-header .ensures) (d .read .given .1) in
+    let r = at-loop (e .before .before .walk .inv .0) (e .before .if1 .left) (d .read .given .0 .0) header (l .before .before .if2 .left) (l .loop .i) (omega arith) (c .if3 .taken) (l .loop .inv .2) in
     (r .answer, r .left)
 
 pub walk-blocks-spec : {M : Type 1} → statement M

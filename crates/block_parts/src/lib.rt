@@ -1,6 +1,8 @@
 // What follows a block's header as it is written, cue points, filler and padded data, put into a lent buffer from an offset on: where one does not fit wholly, nothing is changed.
 use layout::CuePoint;
 use layout::fields::inside;
+use layout::limits::ALIGNMENT;
+use layout::limits::CUE_POINT_SIZE;
 use puts::put_bytes;
 use puts::put_i32;
 use puts::put_u32;
@@ -13,7 +15,7 @@ ghost use Rattle.layout.specs.Puts.{putAt};
 pub fn put_cue(buf: &mut [u8], at: usize, c: CuePoint)
     ensures { λ _. ⌜ now (buf .exit) ≡ putAt (now (buf .entry)) at (cueBytes c) ⌝ }
 {
-    if inside(buf.len(), at, 8) {
+    if inside(buf.len(), at, CUE_POINT_SIZE) {
         put_i32(buf, at, c.sample_index);
         put_u32(buf, at + 4, c.id);
     }
@@ -85,7 +87,7 @@ pub fn put_fillers(buf: &mut [u8], at: usize, n: usize)
 pub fn put_padded(buf: &mut [u8], at: usize, bytes: &[u8])
     ensures { λ _. ⌜ now (buf .exit) ≡ putAt (now (buf .entry)) at (padded (now (bytes .entry))) ⌝ }
 {
-    let pad = (32 - bytes.len() % 32) % 32;
+    let pad = (ALIGNMENT - bytes.len() % ALIGNMENT) % ALIGNMENT;
     if inside(buf.len(), at, bytes.len() + pad) {
         put_bytes(buf, at, bytes);
         put_zeros(buf, at + bytes.len(), pad);

@@ -7,7 +7,7 @@ use borrow.Author.Tests.{eq-eqb, ne-eqb}
 use lib.ListN.{length}
 use lib.Dec.{eqb}
 use Rattle.layout.specs.Lists.{sum, concat}
-use Rattle.layout.specs.Records.{P, padded, sizeOf, blockHeader, blockBytes}
+use Rattle.layout.specs.Records.{P, padded, sizeOf, blockHeader, blockBytes, dataAfter}
 use Rattle.layout.specs.Puts.{putAt}
 use Rattle.layout.specs.Sizes.{saturated}
 use Rattle.layout.specs.declared.BlockHeader.{BlockHeader}
@@ -25,6 +25,7 @@ use Rattle.taking.specs.Taking.{pointBytes, filledBytes}
 use Rattle.taking.proofs.PointLaws.{taken-length}
 use Rattle.push_plan.specs.PushPlan.{paddedSize, secondContext, headerIn}
 use Rattle.block_writer.specs.PushData.{dataIn}
+use Rattle.layout.specs.Refusals.{cueLimit}
 
 -- ---- The data
 
@@ -58,7 +59,7 @@ data-size ch l r = by-cases (eqb ch 2) (λ q. rw q (omega arith)) (λ q. rw q (o
 -- ---- The whole block
 
 module _ (base id k ch : ℕ) (cs : List Cue) (l r : ChannelBlock) (ld rd o : List ℕ) (next : ℕ)
-    (counted : k ≡ points cs) (few : k ≤ 128) (room : 32 + P (8 * k) + paddedSize ch (length ld) (length rd) ≤ length o) where
+    (counted : k ≡ points cs) (few : k ≤ cueLimit) (room : dataAfter k + paddedSize ch (length ld) (length rd) ≤ length o) where
   abbrev head : BlockHeader
   head = headerIn k ch l r (length ld) (length rd) next
 
@@ -71,7 +72,7 @@ module _ (base id k ch : ℕ) (cs : List Cue) (l r : ChannelBlock) (ld rd o : Li
       let c : k ≡ length (pointsOf base id cs) = counted ∙ sym (points-length base id cs) in
       rw (a, b, c, ← points-length base id cs) (simp append-assoc)
 
-  pub block-put : (h : BlockHeader) → h ≡ headerIn k ch l r (length ld) (length rd) next → (b₁ b₂ b₃ : List ℕ) (x : ℕ) → x ≡ 32 + P (8 * k)
+  pub block-put : (h : BlockHeader) → h ≡ headerIn k ch l r (length ld) (length rd) next → (b₁ b₂ b₃ : List ℕ) (x : ℕ) → x ≡ dataAfter k
       → b₁ ≡ putAt o 0 (headerPut h) → b₂ ≡ putAt b₁ 32 (filledBytes base id cs) → b₃ ≡ putAt b₂ x (concat padded (dataIn ch ld rd))
       → b₃ ≡ putAt o 0 (blockBytes next (l .length) (l .context) (secondContext ch r) (pointsOf base id cs) (dataIn ch ld rd))
   block-put h eh b₁ b₂ b₃ x ex e₁ e₂ e₃ =

@@ -11,8 +11,8 @@ use lib.Seq.{slice}
 use lib.Dec.{eqb}
 use Rattle.layout.specs.Choice.{pick, _or_, _and_}
 use Rattle.layout.specs.Lists.{any, concat}
-use Rattle.layout.specs.Records.{P, adpcmBytes, adpcmSamples, padded}
-use Rattle.layout.specs.Refusals.{Due, firstDue}
+use Rattle.layout.specs.Records.{P, adpcmBytes, adpcmSamples, padded, dataAfter}
+use Rattle.layout.specs.Refusals.{Due, firstDue, cueLimit, lengthLimit}
 use Rattle.layout.specs.Puts.{putAt}
 use Rattle.layout.specs.declared.BlockHeader.{BlockHeader}
 use Rattle.layout.proofs.Cases.{by-cases}
@@ -114,10 +114,10 @@ module _ (w : HpsWriter) (g : Good w) (end : ℕ) (last : Bool) (t : Taken)
   in-table : w .count ≤ length (w .cues)
   in-table = omega (arith, g .few, g .table)
 
-  pub to-within : t .to ≤ 128
+  pub to-within : t .to ≤ cueLimit
   to-within = omega (arith, taken-within (w .cues) (w .next) (w .count) end last (g .placed) in-table t takes, g .few)
 
-  pub few-points : t .points ≤ 128
+  pub few-points : t .points ≤ cueLimit
   few-points = omega (arith, taken-few (w .cues) (w .next) (w .count) end last (g .placed) in-table t takes, to-within)
 
   pub are-taken : Taking (w .cues) (w .next) (t .to) (t .points)
@@ -150,10 +150,10 @@ module _ {w : HpsWriter} {ch : ℕ} {l r : ChannelBlock} {ld rd : List ℕ} {las
   plan-due = ap (λ (p : Plan). p .due) (k .plans) ∙ by-cases (eqb number 0) (λ q. rw q (sym (eqb-true _ 0 q))) (λ q. rw q)
 
   -- a length that is not refused
-  module _ (short : l .length ≤ 131072) where
+  module _ (short : l .length ≤ lengthLimit) where
     ends-at : end ≡ w .base + adpcmSamples (l .length)
     unfolding endFrom
-    ends-at = k .ends ∙ rw (le-ltb 131072 (l .length) short)
+    ends-at = k .ends ∙ rw (le-ltb lengthLimit (l .length) short)
 
     same : takenTo (w .cues) (w .next) (w .count) end last ≡ takenOf w args
     unfolding takenOf takesOf takenTo takesTo
@@ -192,11 +192,11 @@ module _ {w : HpsWriter} {ch : ℕ} {l r : ChannelBlock} {ld rd : List ℕ} {las
     unfolding planOf
     made = k .plans ∙ rw (eq-eqb number 0 (sym plan-due ∙ z))
 
-    pub starts : plan .start ≡ 32 + P (8 * t .points)
+    pub starts : plan .start ≡ dataAfter (t .points)
     unfolding madePlan
     starts = ap (λ (p : Plan). p .start) made
 
-    pub totals : plan .size ≡ 32 + P (8 * t .points) + paddedSize ch (length ld) (length rd)
+    pub totals : plan .size ≡ dataAfter (t .points) + paddedSize ch (length ld) (length rd)
     unfolding madePlan sizeFor
     totals = ap (λ (p : Plan). p .size) made
 

@@ -1,5 +1,6 @@
 // Push: the block's bytes by its plan, and the record afterwards.
 use block_parts::put_padded;
+use layout::limits::BLOCK_HEADER_SIZE;
 use push_advance::advance;
 use push_plan::Stream;
 use push_plan::block_end;
@@ -24,8 +25,6 @@ ghost use Rattle.writer.specs.Calls.{called, noPlace, pushOf, Good};
 ghost use Rattle.push_due.specs.PushDue.{pushArgs};
 ghost use Rattle.push_plan.specs.PushPlan.{streamOf, writerOf, paddedSize};
 ghost use Rattle.block_writer.specs.PushData.{dataIn};
-
-pub const HEADER_SIZE: usize = 32;
 
 // The record without its table of cues.
 pub fn stream_of(w: HpsWriter) -> Stream
@@ -150,7 +149,7 @@ pub fn push(
     put_header(lent, 0, header);
     put_taken(
         lent,
-        HEADER_SIZE,
+        BLOCK_HEADER_SIZE,
         cues,
         w.next,
         taken.to,

@@ -1,5 +1,5 @@
 -- A script's begin, and its calls after it.
-use Prim.Native.Nat.{ℕ, _≤_}
+use Prim.Native.Nat.{ℕ, _≤_, _+_}
 use mathlib.Core.Path.{_≡_, refl, ap, sym, _∙_}
 use mathlib.Core.Bool.{Bool, true, false}
 use mathlib.Core.List.{List, _++_}
@@ -18,11 +18,12 @@ use Rattle.writer.specs.Calls.{Outcome, replyOf, beginOf}
 use Rattle.writer.proofs.DueLaws.{passed-begin}
 use Rattle.power_cut.specs.PowerCut.{writesOf}
 use Rattle.noted.specs.Noted.{notedIn}
-use Rattle.noted_calls.specs.NotedCalls.{lentOf, Tally, Begun}
+use Rattle.noted_calls.specs.NotedCalls.{lentOf, Tally, Begun, logSize}
 use Rattle.noted_calls.specs.declared.Made.{Made}
 use Rattle.calls.specs.Script.{begunLength, begins, callsIn, callsOf, scriptWrites}
 use Rattle.calls.specs.Carried.{isRefused, refusedReply, Loads}
 use Rattle.calls.specs.declared.loading.Loaded.{Loaded}
+use Rattle.layout.specs.Refusals.{slotLimit, slotLeast, keyLimit}
 
 same-refusal : (a : Answer) → refusedReply (replyOf a) ≡ isRefused a
 same-refusal (refused n) = refl
@@ -36,24 +37,24 @@ begin-accepted n ch b lent h =
     (λ q. (eqb-true _ 0 q, rw q))
     (λ q. apart (rw q at h))
 
-small-slot : (slot ch lent : ℕ) → beginRefusal (begunLength slot) ch lent ≡ 0 → begunLength slot ≤ 65536
+small-slot : (slot ch lent : ℕ) → beginRefusal (begunLength slot) ch lent ≡ 0 → begunLength slot ≤ keyLimit
 small-slot slot ch lent h =
-    let e = or-false (ltb 16777216 (begunLength slot)) (ltb (begunLength slot) 192) (passed-begin _ _ _ h .no7) in
-    by-cases (ltb 65536 slot)
-    (λ q. absurd (let l : 16777217 ≤ 16777216 = ltb-false 16777216 16777217 (rw q at (e .0)) in omega arith))
-    (λ q. rw q (ltb-false 65536 slot q))
+    let e = or-false (ltb slotLimit (begunLength slot)) (ltb (begunLength slot) slotLeast) (passed-begin _ _ _ h .no7) in
+    by-cases (ltb keyLimit slot)
+    (λ q. absurd (let l : slotLimit + 1 ≤ slotLimit = ltb-false slotLimit (slotLimit + 1) (rw q at (e .0)) in omega arith))
+    (λ q. rw q (ltb-false keyLimit slot q))
 
 -- So an accepted begin is given the slot's own length.
 pub own-length : (slot ch : ℕ) (b : BeginLine) (lent : List ℕ) → beginOf (begunLength slot) ch (b .mode) lent .answer ≡ accepted 0 → begunLength slot ≡ slot
 own-length slot ch b lent a =
     let small = small-slot slot ch (length lent) (begin-accepted (begunLength slot) ch b lent (ap isRefused a) .0) in
-    by-cases (ltb 65536 slot) (λ q. let l : 16777217 ≤ 65536 = rw q at small in absurd (omega arith)) (λ q. rw q)
+    by-cases (ltb keyLimit slot) (λ q. let l : slotLimit + 1 ≤ keyLimit = rw q at small in absurd (omega arith)) (λ q. rw q)
 
 -- The begin of a script whose BEGN line says b.
 abbrev beginBy : (n : ℕ) → BeginLine → Start → Outcome
 beginBy n b st = beginOf n (b .channels) (b .mode) (lentOf (st .lent))
 
-module _ (slot : ℕ) {n : ℕ} {s line : List ℕ} {st : Start} {b : BeginLine} {r : Bool} {kept : List ℕ} {m : Made} {after : List ℕ} (start : Starts s 65536 st) (el : line ≡ lineOf (drop (st .at) s)) (eb : b ≡ beginLine line) (en : n ≡ begunLength slot) (made : Begun n (beginBy n b st) kept m after) (er : r ≡ refusedReply (m .reply)) where
+module _ (slot : ℕ) {n : ℕ} {s line : List ℕ} {st : Start} {b : BeginLine} {r : Bool} {kept : List ℕ} {m : Made} {after : List ℕ} (start : Starts s keyLimit st) (el : line ≡ lineOf (drop (st .at) s)) (eb : b ≡ beginLine line) (en : n ≡ begunLength slot) (made : Begun n (beginBy n b st) kept m after) (er : r ≡ refusedReply (m .reply)) where
   is-begins : beginBy n b st ≡ begins slot s
   unfolding begins
   is-begins = rw (en, eb, el, start .line, start .buffer)
@@ -64,13 +65,13 @@ module _ (slot : ℕ) {n : ℕ} {s line : List ℕ} {st : Start} {b : BeginLine}
   pub loads-nothing : {q : Loaded} {k : List ℕ} → r ≡ true → q .refused ≡ true → Loads slot s q k
   loads-nothing t e = record { refused = e ∙ sym t ∙ answer-is; is = λ f. apart (sym e ∙ f) }
 
-  module _ (a : r ≡ false) (room : 65664 ≤ length kept) where
+  module _ (a : r ≡ false) (room : logSize ≤ length kept) where
     fine : (beginRefusal n (b .channels) (length (lentOf (st .lent))) ≡ 0) × (beginBy n b st .answer ≡ accepted 0)
     fine = begin-accepted n (b .channels) b (lentOf (st .lent)) (sym (same-refusal (beginBy n b st .answer)) ∙ rw (← made .reply, ← er) a)
 
     pub begun-tally : Tally (m .noted) (m .writer) after
     begun-tally =
-        let small : n ≤ 65536 = rw en (small-slot slot (b .channels) (length (lentOf (st .lent))) (rw en at (fine .0))) in
+        let small : n ≤ keyLimit = rw en (small-slot slot (b .channels) (length (lentOf (st .lent))) (rw en at (fine .0))) in
         made .tally room small (fine .1)
 
     pub loads-all : (next : ℕ) {q : Loaded} {k : List ℕ} → drop next s ≡ nextOf (drop (st .at) s) → q .refused ≡ false

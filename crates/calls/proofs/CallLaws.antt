@@ -38,7 +38,7 @@ use Rattle.power_cut.specs.PowerCut.{step, writesOf}
 use Rattle.noted.specs.declared.Noted.{Noted}
 use Rattle.noted_calls.specs.NotedCalls.{lentOf, Tally, MadeBy}
 use Rattle.noted_calls.specs.declared.Made.{Made}
-use Rattle.calls.specs.Script.{pushWith, pushBy, callBy}
+use Rattle.calls.specs.Script.{pushWith, pushBy, callBy, scriptLimit}
 use Rattle.calls.specs.Carried.{Makes}
 
 -- ---- Data
@@ -47,11 +47,11 @@ line-short : (s : List ℕ) (at : ℕ) → length (lineOf (drop at s)) ≤ lengt
 unfolding lineOf uncommented
 line-short s at = simp (length-take, length-drop) (omega arith)
 
-pub line-fits : (s : List ℕ) (at : ℕ) {l : List ℕ} → l ≡ lineOf (drop at s) → length s ≤ 1048576 → length l ≤ 1048576
+pub line-fits : (s : List ℕ) (at : ℕ) {l : List ℕ} → l ≡ lineOf (drop at s) → length s ≤ scriptLimit → length l ≤ scriptLimit
 line-fits s at e h = rw e (omega (arith, line-short s at))
 
 -- A line's data, put into room for it.
-module _ (l z : List ℕ) {w b : List ℕ} {n : ℕ} (short : length l ≤ 1048576) (ew : w ≡ dataWord l) (room : 524288 ≡ length z) (e : b ≡ putAt z 0 (dataOf w)) (m : n ≡ pick (leb (0 + length (dataOf w)) (length z)) (length (dataOf w)) 0) where
+module _ (l z : List ℕ) {w b : List ℕ} {n : ℕ} (short : length l ≤ scriptLimit) (ew : w ≡ dataWord l) (room : 524288 ≡ length z) (e : b ≡ putAt z 0 (dataOf w)) (m : n ≡ pick (leb (0 + length (dataOf w)) (length z)) (length (dataOf w)) 0) where
   fits : length (dataOf w) ≤ length z
   fits = let e = data-length w in let n : length w ≤ length l = rw ew (word-short l 23) in omega arith
 

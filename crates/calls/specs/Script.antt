@@ -1,5 +1,5 @@
 -- The calls that a well-formed script makes, and the writes that they hand out.
-use Prim.Native.Nat.{ℕ}
+use Prim.Native.Nat.{ℕ, _+_}
 use mathlib.Core.List.{List, [], _∷_, _++_}
 use lib.ListN.{getD}
 use lib.Dec.{ltb}
@@ -15,6 +15,11 @@ use Rattle.writer.specs.Loading.{Push, Call, cue, push, finish}
 use Rattle.writer.specs.Calls.{Outcome}
 use Rattle.power_cut.specs.PowerCut.{begin, allWrites}
 use Rattle.noted_calls.specs.NotedCalls.{longLent, lentOf}
+use Rattle.layout.specs.Refusals.{slotLimit, keyLimit}
+
+-- The longest script.
+abbrev pub scriptLimit : ℕ
+scriptLimit = 1048576
 
 -- A push by what PUSH says and its two CHAN lines; an empty line says zeros and no data.
 unfoldable pub pushWith : PushLine → (left right : List ℕ) → Push
@@ -43,7 +48,7 @@ openingOf s = openingFrom longLent (linesOf s)
 
 -- "the slot length is EARLIER's"; a slot that is too long to be listed gets 7, as from `key`
 abbrev pub begunLength : ℕ → ℕ
-begunLength n = pick (ltb 65536 n) 16777217 n
+begunLength n = pick (ltb keyLimit n) (slotLimit + 1) n
 
 -- The script's begin on a slot of this length.
 unfoldable pub begins : (slot : ℕ) → (script : List ℕ) → Outcome

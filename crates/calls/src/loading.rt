@@ -3,6 +3,9 @@ use crate::made::make;
 use crate::told::Voice;
 use crate::told::tell_call;
 use crate::told::tell_line;
+use layout::limits::FILE_HEADER_SIZE;
+use layout::limits::KEY_LIMIT;
+use layout::limits::SLOT_LIMIT;
 use noted::Noted;
 use noted::none;
 use noted_calls::LENT;
@@ -26,15 +29,18 @@ ghost use Rattle.words.specs.Texts.{nextOf, linesOf};
 ghost use Rattle.writer.specs.Calls.{Good};
 ghost use Rattle.power_cut.specs.PowerCut.{writesOf};
 ghost use Rattle.noted.specs.Noted.{notedIn, Listed};
-ghost use Rattle.noted_calls.specs.NotedCalls.{Tally};
-ghost use Rattle.calls.specs.Script.{begunLength, callsIn};
+ghost use Rattle.noted_calls.specs.NotedCalls.{Tally, logSize};
+ghost use Rattle.calls.specs.Script.{begunLength, callsIn, scriptLimit};
 ghost use Rattle.calls.specs.Carried.{allOf, Underway, Follows, refusedReply, Loads};
 
 // The longest script.
-pub const SCRIPT_LIMIT: usize = 1048576;
+pub const SCRIPT_LIMIT: usize = 1_048_576;
 
 // Room for the bytes of all writes of a loading.
-pub const KEPT: usize = 65664;
+pub const KEPT: usize = KEY_LIMIT + FILE_HEADER_SIZE;
+
+// A length that begin refuses with 7.
+const TOO_LONG: usize = SLOT_LIMIT + 1;
 
 // A loading under way: the record, the writes, how long the lent buffer is, and the next call's number.
 pub struct Loading {
@@ -52,7 +58,7 @@ pub struct Loaded {
 
 // The line that starts here.
 fn load_line(v: Voice, s: &[u8], at: usize, next: usize, st: Loading, kept: &mut [u8]) -> Loading
-    requires { ⌜ Underway st (now kept) × (length (now s) ≤ 1048576) ⌝ }
+    requires { ⌜ Underway st (now kept) × (length (now s) ≤ scriptLimit) ⌝ }
     requires { ⌜ (at < length (now s)) × (drop next (now s) ≡ nextOf (drop at (now s))) ⌝ }
     ensures { λ q. ⌜ Follows (now (s .entry)) at st (now (kept .entry)) q (now (kept .exit)) ⌝ }
 {
@@ -74,7 +80,7 @@ fn load_line(v: Voice, s: &[u8], at: usize, next: usize, st: Loading, kept: &mut
 
 // The lines from here on.
 fn load_lines(v: Voice, s: &[u8], from: usize, start: Loading, kept: &mut [u8]) -> Loading
-    requires { ⌜ Underway start (now kept) × (length (now s) ≤ 1048576) ⌝ }
+    requires { ⌜ Underway start (now kept) × (length (now s) ≤ scriptLimit) ⌝ }
     ensures { λ q. ⌜ (notedIn (q .noted) (now (kept .exit)) ≡ allOf start (now (kept .entry)) (linesOf (drop from (now (s .entry))))) × Listed (q .noted) (now (kept .exit)) ⌝ }
 {
     let mut st = start;
@@ -91,8 +97,8 @@ fn load_lines(v: Voice, s: &[u8], from: usize, start: Loading, kept: &mut [u8]) 
 fn begun_length(n: usize) -> usize
     ensures { λ r. ⌜ r ≡ begunLength n ⌝ }
 {
-    if n > 65536 {
-        return 16777217;
+    if n > KEY_LIMIT {
+        return TOO_LONG;
     }
     n
 }
@@ -119,7 +125,7 @@ fn nothing() -> Loaded
 // The calls after an accepted begin, of the lines from here on.
 fn load_rest(v: Voice, s: &[u8], from: usize, m: Made, lent: usize, kept: &mut [u8]) -> Loaded
     requires { ⌜ Good (m .writer) × Tally (m .noted) (m .writer) (now kept) ⌝ }
-    requires { ⌜ length (now s) ≤ 1048576 ⌝ }
+    requires { ⌜ length (now s) ≤ scriptLimit ⌝ }
     ensures { λ q. ⌜ notedIn (q .noted) (now (kept .exit)) ≡ notedIn (m .noted) (now (kept .entry)) ++ writesOf (m .writer) (callsIn lent (linesOf (drop from (now (s .entry))))) ⌝ }
     ensures { λ q. ⌜ (q .refused ≡ false) × Listed (q .noted) (now (kept .exit)) ⌝ }
 {
@@ -148,7 +154,7 @@ fn tell_begin(v: Voice, refused: bool, reply: Reply, noted: Noted) {
 
 // The calls of a script that is not too long, with room for their writes.
 fn load_script(v: Voice, s: &[u8], slot: usize, kept: &mut [u8]) -> Loaded
-    requires { ⌜ (length (now s) ≤ 1048576) × (65664 ≤ length (now kept)) ⌝ }
+    requires { ⌜ (length (now s) ≤ scriptLimit) × (logSize ≤ length (now kept)) ⌝ }
     ensures { λ q. ⌜ Loads slot (now (s .entry)) q (now (kept .exit)) × Listed (q .noted) (now (kept .exit)) ⌝ }
 {
     let start = start_of(s, LENT);
@@ -168,7 +174,7 @@ fn load_script(v: Voice, s: &[u8], slot: usize, kept: &mut [u8]) -> Loaded
 
 // The calls of a well-formed script on a slot of this length; a refused begin ends it.
 pub fn load(v: Voice, s: &[u8], slot: usize, kept: &mut [u8]) -> Loaded
-    ensures { λ q. ⌜ (length (now (s .entry)) ≤ 1048576 → 65664 ≤ length (now (kept .entry)) → Loads slot (now (s .entry)) q (now (kept .exit))) ⌝ }
+    ensures { λ q. ⌜ (length (now (s .entry)) ≤ scriptLimit → logSize ≤ length (now (kept .entry)) → Loads slot (now (s .entry)) q (now (kept .exit))) ⌝ }
     ensures { λ q. ⌜ Listed (q .noted) (now (kept .exit)) ⌝ }
 {
     if s.len() > SCRIPT_LIMIT {

@@ -24,7 +24,7 @@ ghost use Rattle.script.specs.Lines.{cueLine};
 ghost use Rattle.writer.specs.Loading as Loading;
 ghost use Rattle.writer.specs.Calls.{Good, pushOf};
 ghost use Rattle.noted_calls.specs.NotedCalls.{lentOf, Tally, MadeBy};
-ghost use Rattle.calls.specs.Script.{pushWith, pushBy, callBy};
+ghost use Rattle.calls.specs.Script.{pushWith, pushBy, callBy, scriptLimit};
 ghost use Rattle.calls.specs.Carried.{Makes};
 
 // The most data that a line of a script of 1 MiB says.
@@ -47,7 +47,7 @@ fn push_sides(
     kept: &mut [u8],
 ) -> Made
     requires { ⌜ Good w × Tally j w (now kept) ⌝ }
-    requires { ⌜ (length (now left) ≤ 1048576) × (length (now right) ≤ 1048576) ⌝ }
+    requires { ⌜ (length (now left) ≤ scriptLimit) × (length (now right) ≤ scriptLimit) ⌝ }
     ensures { λ q. ⌜ MadeBy (pushOf w (pushWith p (now (left .entry)) (now (right .entry))) (lentOf lent)) j (now (kept .entry)) q (now (kept .exit)) ⌝ }
 {
     let mut left_data = data_room();
@@ -81,7 +81,7 @@ fn push_call(
     kept: &mut [u8],
 ) -> Made
     requires { ⌜ Good w × Tally j w (now kept) ⌝ }
-    requires { ⌜ length (now s) ≤ 1048576 ⌝ }
+    requires { ⌜ length (now s) ≤ scriptLimit ⌝ }
     ensures { λ q. ⌜ MadeBy (pushOf w (pushBy (now (line .entry)) (linesOf (drop next (now (s .entry))))) (lentOf lent)) j (now (kept .entry)) q (now (kept .exit)) ⌝ }
 {
     let p = push_line(line);
@@ -126,7 +126,7 @@ pub(crate) fn make(
     kept: &mut [u8],
 ) -> Made
     requires { ⌜ Good w × Tally j w (now kept) ⌝ }
-    requires { ⌜ length (now s) ≤ 1048576 ⌝ }
+    requires { ⌜ length (now s) ≤ scriptLimit ⌝ }
     ensures { λ q. ⌜ Makes (callBy kind (now (line .entry)) lent (linesOf (drop next (now (s .entry))))) w j (now (kept .entry)) q (now (kept .exit)) ⌝ }
 {
     match kind {

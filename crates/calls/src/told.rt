@@ -2,6 +2,7 @@
 use noted::Noted;
 use script::kinds::Kind;
 use telling::print_numbers;
+use writer::MOST_WRITES;
 use writer::Place;
 use writer::Reply;
 
@@ -33,7 +34,7 @@ fn tell_writes(fd: i32, call: u64, noted: Noted, from: usize) {
     let places = noted.places;
     let mut i = from;
     while i < noted.count {
-        if i < 516 {
+        if i < MOST_WRITES {
             let place = places[i];
             tell_write(fd, call, place);
         }

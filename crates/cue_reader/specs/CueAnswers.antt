@@ -13,6 +13,7 @@ use Rattle.reader.specs.declared.CueIterator.{CueIterator}
 use Rattle.reader.specs.CuesReadBack.{CueAnswer, pointOf, CueStep}
 use Rattle.cue_reader.specs.declared.CueReply.{CueReply}
 use Rattle.cue_reader.specs.declared.CueCall.{CueCall}
+use Rattle.layout.specs.Refusals.{blockLimit}
 
 abbrev pub cueReply : CueAnswer → CueReply
 cueReply (CueAnswer.refused n) = CueReply.Refused n
@@ -35,7 +36,7 @@ pointRead b (Read.value p) = cueReply (pointOf b p)
 pub record PartsOf (r : HpsReader) (os : List ℕ) (n : ℕ) (l : LoopStart) (f : DspFormat) : Type 0 where
   pub readable : Readable r
   pub two : length (r .channels) ≡ 2
-  pub table : length (r .offsets) ≡ 512
+  pub table : length (r .offsets) ≡ blockLimit
   pub offsets : r .offsets ≡ os
   pub blocks : r .blocks ≡ n
   pub start : r .«loop_start» ≡ l

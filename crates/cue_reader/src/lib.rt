@@ -4,6 +4,8 @@ use cue_starts::loop_here;
 use layout::DspFormat;
 use layout::answers::CueRead;
 use layout::answers::HeaderRead;
+use layout::limits::BLOCK_HEADER_SIZE;
+use layout::limits::CUE_POINT_SIZE;
 use reader::CueIterator;
 use reader::HpsReader;
 use reader::LoopStart;
@@ -87,7 +89,11 @@ pub fn cue_from(
             };
         };
         if place < header.cues {
-            let point = point_at(s, offset as usize + 32 + 8 * place, base);
+            let point = point_at(
+                s,
+                offset as usize + BLOCK_HEADER_SIZE + CUE_POINT_SIZE * place,
+                base,
+            );
             return stepped(point, block, place + 1, base, due);
         }
         block += 1;

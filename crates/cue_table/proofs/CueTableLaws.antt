@@ -13,6 +13,7 @@ use Rattle.layout.specs.Lists.{same, firstIndex}
 use Rattle.layout.proofs.Cases.{by-cases}
 use Rattle.writer.specs.Loading.{rank, rangeLength, fields, lexLt, before, has}
 use Rattle.writer.specs.declared.Cue.{Cue}
+use Rattle.layout.specs.Refusals.{cueLimit}
 
 -- ---- The order of two cues, field by field
 
@@ -76,7 +77,7 @@ module _ (c d : Cue) where
 
 -- ---- The first n cues of the table, searched
 
-module _ (t : List Cue) (n i : ℕ) (d : Cue) (l : length t ≡ 128) (m : n ≤ 128) where
+module _ (t : List Cue) (n i : ℕ) (d : Cue) (l : length t ≡ cueLimit) (m : n ≤ cueLimit) where
   rest : i < n → drop i (take n t) ≡ getD t i d ∷ drop (i + 1) (take n t)
   rest h =
       let k : n ≤ length t = omega arith in
@@ -101,7 +102,7 @@ module _ (t : List Cue) (n i : ℕ) (d : Cue) (l : length t ≡ 128) (m : n ≤ 
     unfolding firstIndex
     place-on v e q = let s = sym e ∙ q in v ∙ rw (rest h, s) (omega arith)
 
-module _ (t : List Cue) (n i : ℕ) (c : Cue) (l : length t ≡ 128) (m : n ≤ 128) (h : n ≤ i) where
+module _ (t : List Cue) (n i : ℕ) (c : Cue) (l : length t ≡ cueLimit) (m : n ≤ cueLimit) (h : n ≤ i) where
   none-left : drop i (take n t) ≡ []
   none-left = drop-of-length-le (take n t) {i = i} (omega (arith, length-take n t))
 
@@ -118,7 +119,7 @@ module _ (t : List Cue) (n i : ℕ) (c : Cue) (l : length t ≡ 128) (m : n ≤ 
 pub move-none : (i : ℕ) (t : List Cue) (c : Cue) → set t i c ≡ paste (set t i c) (i + 1) (drop i t) (i - i)
 move-none i t c = let z : i - i ≡ 0 = omega arith in rw z (paste-zero (set t i c) (i + 1) (drop i t))
 
-pub move-on : (i k n : ℕ) (t u : List Cue) (c d : Cue) → length t ≡ 128 → i ≤ k → k < n → n < 128
+pub move-on : (i k n : ℕ) (t u : List Cue) (c d : Cue) → length t ≡ cueLimit → i ≤ k → k < n → n < cueLimit
     → u ≡ paste (set t i c) (i + 1) (drop i t) (k - i) → set u (k + 1) (getD t k d) ≡ paste (set t i c) (i + 1) (drop i t) (k + 1 - i)
 move-on i k n t u c d l ik kn nb v =
     let p : i + 1 + (k - i) ≡ k + 1 = omega arith in
@@ -128,7 +129,7 @@ move-on i k n t u c d l ik kn nb v =
     let b : k - i < length (drop i t) = rw length-drop (omega arith) in
     rw (v, ← q, ← p, ← r) (paste-suc (set t i c) (i + 1) (drop i t) (k - i) d a b)
 
-pub move-all : (i k n : ℕ) (t u : List Cue) (c : Cue) → length t ≡ 128 → i ≤ k → k ≤ n → n ≤ k → n < 128
+pub move-all : (i k n : ℕ) (t u : List Cue) (c : Cue) → length t ≡ cueLimit → i ≤ k → k ≤ n → n ≤ k → n < cueLimit
     → u ≡ paste (set t i c) (i + 1) (drop i t) (k - i) → u ≡ take i t ++ (c ∷ (take (n - i) (drop i t) ++ drop (n + 1) t))
 move-all i k n t u c l ik kn nk nb v =
     let il : i < length t = omega arith in

@@ -1,4 +1,5 @@
 // The order of cues, and the table that holds them in that order (document 01, "Loading").
+use layout::limits::CUE_LIMIT;
 use writer::Cue;
 use writer::CueKind;
 ghost use mathlib.Core.Path.{_≡_};
@@ -7,6 +8,7 @@ ghost use Prim.Native.Nat.{_+_, _-_, _<_, _≤_};
 ghost use lib.ListN.{take, drop};
 ghost use Rattle.layout.specs.Lists.{same, firstIndex};
 ghost use Rattle.writer.specs.Loading.{rank, rangeLength, fields, before, has};
+ghost use Rattle.layout.specs.Refusals.{cueLimit};
 
 fn rank(k: CueKind) -> u64
     ensures { λ r. ⌜ r ≡ rank k ⌝ }
@@ -72,8 +74,8 @@ fn is_same(c: Cue, d: Cue) -> bool
 }
 
 // Whether an equal cue is among the first n of the table.
-pub fn holds(t: [Cue; 128], n: usize, c: Cue) -> bool
-    requires { ⌜ n ≤ 128 ⌝ }
+pub fn holds(t: [Cue; CUE_LIMIT], n: usize, c: Cue) -> bool
+    requires { ⌜ n ≤ cueLimit ⌝ }
     ensures { λ r. ⌜ r ≡ has c (take n t) ⌝ }
 {
     let mut i: usize = 0;
@@ -88,8 +90,8 @@ pub fn holds(t: [Cue; 128], n: usize, c: Cue) -> bool
 }
 
 // The place among the first n: that of the first cue that c comes before, or past them all.
-pub fn place_of(t: [Cue; 128], n: usize, c: Cue) -> usize
-    requires { ⌜ n ≤ 128 ⌝ }
+pub fn place_of(t: [Cue; CUE_LIMIT], n: usize, c: Cue) -> usize
+    requires { ⌜ n ≤ cueLimit ⌝ }
     ensures { λ r. ⌜ r ≡ firstIndex (before c) (take n t) ⌝ }
 {
     let mut i: usize = 0;
@@ -104,8 +106,8 @@ pub fn place_of(t: [Cue; 128], n: usize, c: Cue) -> usize
 }
 
 // The cue at i, and what stood from i to n one place later.
-pub fn put_in(t: [Cue; 128], n: usize, i: usize, c: Cue) -> [Cue; 128]
-    requires { ⌜ (i ≤ n) × (n < 128) ⌝ }
+pub fn put_in(t: [Cue; CUE_LIMIT], n: usize, i: usize, c: Cue) -> [Cue; CUE_LIMIT]
+    requires { ⌜ (i ≤ n) × (n < cueLimit) ⌝ }
     ensures { λ r. ⌜ r ≡ take i t ++ (c ∷ (take (n - i) (drop i t) ++ drop (n + 1) t)) ⌝ }
 {
     let mut u = t;

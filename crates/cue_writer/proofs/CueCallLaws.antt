@@ -11,7 +11,7 @@ use lib.ListN.{length, take, drop, length-take}
 use lib.Seq.{take-take, take-nil}
 use Rattle.layout.specs.Choice.{_or_}
 use Rattle.layout.specs.Lists.{firstIndex}
-use Rattle.layout.specs.Refusals.{startLimit, firstDue}
+use Rattle.layout.specs.Refusals.{startLimit, firstDue, cueLimit}
 use Rattle.layout.proofs.Cases.{by-cases}
 use Rattle.writer.specs.Loading.{zeroRange, before, has, insert, cueOrder, cueRefusal}
 use Rattle.writer.specs.declared.CueKind.{CueKind}
@@ -73,13 +73,13 @@ module _ (n : ℕ) (bad equal : Bool) (k : ℕ) where
     unfolding firstDue
     cue-equal b h = rw (le-ltb 0 n none, b, h)
 
-    pub cue-20 : bad ≡ false → equal ≡ false → 128 ≤ k → 20 ≡ cueOrder n bad equal k
+    pub cue-20 : bad ≡ false → equal ≡ false → cueLimit ≤ k → 20 ≡ cueOrder n bad equal k
     unfolding firstDue
-    cue-20 b f h = rw (le-ltb 0 n none, b, f, le-leb 128 k h)
+    cue-20 b f h = rw (le-ltb 0 n none, b, f, le-leb cueLimit k h)
 
-    pub cue-fine : bad ≡ false → equal ≡ false → k < 128 → 0 ≡ cueOrder n bad equal k
+    pub cue-fine : bad ≡ false → equal ≡ false → k < cueLimit → 0 ≡ cueOrder n bad equal k
     unfolding firstDue
-    cue-fine b f h = rw (le-ltb 0 n none, b, f, lt-leb 128 k h)
+    cue-fine b f h = rw (le-ltb 0 n none, b, f, lt-leb cueLimit k h)
 
 -- ---- The answers
 
@@ -91,8 +91,8 @@ held-count : (w : HpsWriter) → Good w → length (held w) ≡ w .count
 held-count w g = length-take (w .count) (w .cues) ∙ omega (arith, g .few, g .table)
 
 -- none is due, and no equal cue is held
-pub room-left : (n : ℕ) (b f : Bool) (k r : ℕ) → r ≡ cueOrder n b f k → r ≡ 0 → f ≡ false → k < 128
-room-left n b f k r e z h = leb-false 128 k (rw h at (passed-cue _ _ _ (sym e ∙ z) .no20))
+pub room-left : (n : ℕ) (b f : Bool) (k r : ℕ) → r ≡ cueOrder n b f k → r ≡ 0 → f ≡ false → k < cueLimit
+room-left n b f k r e z h = leb-false cueLimit k (rw h at (passed-cue _ _ _ (sym e ∙ z) .no20))
 
 is-due : (w : HpsWriter) (c : Cue) → Good w → (b f : Bool) (r : ℕ) → b ≡ (ltb startLimit (c .start) or zeroRange (c .kind)) → f ≡ has c (held w)
     → r ≡ cueOrder (w .blocks) b f (w .count) → r ≡ cueRefusal (w .blocks) (held w) c

@@ -2,6 +2,8 @@
 use cue_table::holds;
 use cue_table::place_of;
 use cue_table::put_in;
+use layout::limits::CUE_LIMIT;
+use layout::limits::START_LIMIT;
 use writer::Cue;
 use writer::CueKind;
 use writer::Cued;
@@ -14,10 +16,6 @@ ghost use Rattle.layout.specs.Choice.{_or_};
 ghost use Rattle.layout.specs.Refusals.{startLimit};
 ghost use Rattle.writer.specs.Loading.{zeroRange, cueOrder};
 ghost use Rattle.writer.specs.Calls.{Good, cueOf, cued};
-
-const START_LIMIT: u64 = 2147483647;
-
-const CUE_LIMIT: usize = 128;
 
 // Refused with 8: the start is too late, or a range is empty.
 fn is_bad(start: u64, kind: CueKind) -> bool

@@ -1,4 +1,5 @@
 // What `cut` answers: a script's calls on an earlier slot, and the listings of every moment.
+use calls::loading::KEPT;
 use calls::loading::SCRIPT_LIMIT;
 use calls::loading::load;
 use calls::told::Voice;
@@ -21,8 +22,9 @@ ghost use mathlib.Core.Path.{_≡_};
 ghost use Prim.Native.Nat.{_≤_};
 ghost use lib.ListN.{length};
 ghost use Rattle.noted.specs.Noted.{notedIn, Listed};
-ghost use Rattle.calls.specs.Script.{scriptWrites};
+ghost use Rattle.calls.specs.Script.{scriptWrites, scriptLimit};
 ghost use Rattle.cuts.specs.Moments.{slotOf};
+ghost use Rattle.noted_calls.specs.NotedCalls.{logSize};
 
 // What is asked: all, or the listing of one moment.
 pub enum Ask {
@@ -31,10 +33,10 @@ pub enum Ask {
 }
 
 // Room for the bytes of all writes of a loading.
-fn kept_room() -> [u8; 65664]
-    ensures { λ r. ⌜ 65664 ≡ length r ⌝ }
+fn kept_room() -> [u8; KEPT]
+    ensures { λ r. ⌜ logSize ≡ length r ⌝ }
 {
-    [0; 65664]
+    [0; KEPT]
 }
 
 // The listing of the slot at a moment.
@@ -92,7 +94,7 @@ fn show(fd: i32, earlier: &[u8], text: &[u8], slot: &mut [u8], j: Noted, kept: &
 
 // The answer to a well-formed script. A refused begin's line is all of it.
 fn answer_script(fd: i32, earlier: &[u8], text: &[u8], ask: Ask)
-    requires { ⌜ length (now text) ≤ 1048576 ⌝ }
+    requires { ⌜ length (now text) ≤ scriptLimit ⌝ }
 {
     let n = earlier.len();
     let mut kept = kept_room();

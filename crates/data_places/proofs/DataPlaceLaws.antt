@@ -5,7 +5,7 @@ use mathlib.Core.List.{List}
 use native.Mathlib.Omega.{arith}
 use borrow.Author.Tests.{eq-eqb, ne-eqb}
 use lib.ListN.{length}
-use Rattle.layout.specs.Records.{P, Read, readHeader, lengthIn, adpcmBytes, addressToByteUp}
+use Rattle.layout.specs.Records.{P, Read, readHeader, lengthIn, adpcmBytes, addressToByteUp, dataAfter}
 use Rattle.layout.specs.Sizes.{saturated}
 use Rattle.layout.specs.declared.DspFormat.{DspFormat}
 use Rattle.layout.specs.declared.DspFormat.the-variants.{Adpcm, Pcm16, Pcm8}
@@ -48,7 +48,7 @@ module _ (s : List ℕ) (o : ℕ) (h : BlockHeader) (e : readHeader s o ≡ Read
   cues-small = omega (arith, header-inside s o e, P-above (8 * h .cues))
 
   -- where channel 0's data starts, as the code counts it
-  pub first-is : o + 32 + saturated (P (8 * h .cues)) ≡ o + (32 + P (8 * h .cues))
+  pub first-is : o + 32 + saturated (P (8 * h .cues)) ≡ o + dataAfter (h .cues)
   first-is = omega (arith, saturated-fits (P (8 * h .cues)) (omega (arith, header-inside s o e)))
 
   pub first-small : o + 32 + saturated (P (8 * h .cues)) ≤ length s
@@ -58,13 +58,13 @@ module _ (s : List ℕ) (o : ℕ) (h : BlockHeader) (e : readHeader s o ≡ Read
     pub found-left : (ch ≡ 1 → ⊥) → d ≡ dataPlaced (length s) (o + 32 + saturated (P (8 * h .cues))) (addressToByteUp f (lengthIn h)) (lengthIn h) (h .left) → d ≡ dataFound s o ch f
     unfolding dataFound dataStart
     found-left n q =
-        let p : o + (32 + P (8 * h .cues)) + 0 ≡ o + 32 + saturated (P (8 * h .cues)) = omega (arith, first-is) in
+        let p : o + dataAfter (h .cues) + 0 ≡ o + 32 + saturated (P (8 * h .cues)) = omega (arith, first-is) in
         rw e (rw (ne-eqb ch 1 n) (rw p q))
 
     pub found-right : ch ≡ 1 → h .«end_address» + 1 ≤ 4294967296
         → d ≡ dataPlaced (length s) (o + 32 + saturated (P (8 * h .cues)) + saturated (P (addressToByteUp f (lengthIn h)))) (addressToByteUp f (lengthIn h)) (lengthIn h) (h .right) → d ≡ dataFound s o ch f
     unfolding dataFound dataStart
     found-right n l q =
-        let p : o + (32 + P (8 * h .cues)) + P (addressToByteUp f (lengthIn h)) ≡ o + 32 + saturated (P (8 * h .cues)) + saturated (P (addressToByteUp f (lengthIn h))) =
+        let p : o + dataAfter (h .cues) + P (addressToByteUp f (lengthIn h)) ≡ o + 32 + saturated (P (8 * h .cues)) + saturated (P (addressToByteUp f (lengthIn h))) =
         omega (arith, first-is, aligned-bytes f (lengthIn h) l) in
         rw e (rw (eq-eqb ch 1 n) (rw p q))

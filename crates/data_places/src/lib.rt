@@ -3,6 +3,8 @@ use layout::DspFormat;
 use layout::FrameContext;
 use layout::answers::HeaderRead;
 use layout::fields::inside;
+use layout::limits::BLOCK_HEADER_SIZE;
+use layout::limits::CUE_POINT_SIZE;
 use records::block::read_header;
 use sizes::address_to_byte_up;
 use sizes::align;
@@ -65,7 +67,7 @@ pub fn find_data(s: &[u8], offset: u32, channel: usize, format: DspFormat) -> Da
     };
     let bytes = address_to_byte_up(header.end_address, format);
     let length = header.end_address as u64 + 1;
-    let first = offset as usize + 32 + align(8 * header.cues);
+    let first = offset as usize + BLOCK_HEADER_SIZE + align(CUE_POINT_SIZE * header.cues);
     if channel == 1 {
         let right = header.right;
         place_data(s.len(), first + align(bytes), bytes, length, right)

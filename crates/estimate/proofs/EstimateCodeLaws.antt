@@ -11,8 +11,8 @@ use lib.ListN.{length, getD, drop, drop-of-length-le}
 use lib.Seq.{drop-cons}
 use Rattle.layout.specs.Choice.{pick}
 use Rattle.layout.specs.Lists.{sum}
-use Rattle.layout.specs.Records.{P, adpcmBytes}
-use Rattle.layout.specs.Refusals.{due, firstDue, sizeLimit, tooShort, tooLarge}
+use Rattle.layout.specs.Records.{P, adpcmBytes, fileHeaderSize, blockHeaderSize, alignment}
+use Rattle.layout.specs.Refusals.{due, firstDue, sizeLimit, tooShort, tooLarge, blockLimit, monoLimit}
 use Rattle.layout.specs.Sizes.{saturated}
 use Rattle.layout.proofs.Cases.{by-cases, none-due}
 use Rattle.layout.proofs.SizeLaws.{aligned}
@@ -44,7 +44,7 @@ module _ (ch n : ℕ) where
   unfolding firstDue
   length-fine x y s ex ey h = rw (le-ltb n 2 s, le-ltb (sizeLimit ch) (adpcmBytes n) (rw (ex, ey) at h))
 
-  pub bytes-few : byLength ch n ≡ 0 → adpcmBytes n ≤ 65536
+  pub bytes-few : byLength ch n ≡ 0 → adpcmBytes n ≤ monoLimit
   unfolding adpcmBytes
   bytes-few h =
       let a = none-due 10 (tooShort n) _ (lit< tt) h in
@@ -57,21 +57,25 @@ module _ (ch n : ℕ) where
 
 -- ---- One block
 
-P-few : (n : ℕ) → n ≤ 65536 → P n ≤ 65536
+P-few : (n : ℕ) → n ≤ monoLimit → P n ≤ monoLimit
 unfolding P
 P-few n h = omega arith
 
-abbrev pub forBlock : (channels length : ℕ) → ℕ
-forBlock ch n = 32 + ch * P (adpcmBytes n)
+-- The most that a block may take, without its cues.
+abbrev pub mostBlock : ℕ
+mostBlock = blockHeaderSize + 2 * monoLimit
 
-block-few : (ch n : ℕ) → ch ≤ 2 → adpcmBytes n ≤ 65536 → forBlock ch n ≤ 131104
+abbrev pub forBlock : (channels length : ℕ) → ℕ
+forBlock ch n = blockHeaderSize + ch * P (adpcmBytes n)
+
+block-few : (ch n : ℕ) → ch ≤ 2 → adpcmBytes n ≤ monoLimit → forBlock ch n ≤ mostBlock
 block-few ch n c h = let m = mul-le-mul c (P-few (adpcmBytes n) h) in omega arith
 
-module _ (ch n x s : ℕ) (ex : x ≡ adpcmBytes n) (es : s ≡ saturated (P x)) (h : (ch ≤ 2) × (adpcmBytes n ≤ 65536)) where
-  pub is-block : 32 + ch * s ≡ forBlock ch n
+module _ (ch n x s : ℕ) (ex : x ≡ adpcmBytes n) (es : s ≡ saturated (P x)) (h : (ch ≤ 2) × (adpcmBytes n ≤ monoLimit)) where
+  pub is-block : blockHeaderSize + ch * s ≡ forBlock ch n
   is-block = rw (es, ex, aligned (adpcmBytes n) (omega arith))
 
-  pub block-fits : 32 + ch * s ≤ 131104
+  pub block-fits : blockHeaderSize + ch * s ≤ mostBlock
   block-fits = rw is-block (block-few ch n (h .0) (h .1))
 
 -- ---- The sum
@@ -79,12 +83,12 @@ module _ (ch n x s : ℕ) (ex : x ≡ adpcmBytes n) (es : s ≡ saturated (P x))
 -- i lengths are passed, none refused, and their blocks are in the sum
 pub record Summed (ch : ℕ) (ns : List ℕ) (total i : ℕ) : Type 0 where
   pub few : i ≤ length ns
-  pub many : length ns ≤ 512
+  pub many : length ns ≤ blockLimit
   pub passed : firstDue (lengthsDue ch ns) ≡ firstDue (lengthsDue ch (drop i ns))
-  pub rest : total + sum (forBlock ch) (drop i ns) ≡ 128 + sum (forBlock ch) ns
-  pub small : total ≤ 128 + 131104 * i
+  pub rest : total + sum (forBlock ch) (drop i ns) ≡ fileHeaderSize + sum (forBlock ch) ns
+  pub small : total ≤ fileHeaderSize + mostBlock * i
 
-pub none-summed : (ch : ℕ) (ns : List ℕ) → length ns ≤ 512 → Summed ch ns 128 0
+pub none-summed : (ch : ℕ) (ns : List ℕ) → length ns ≤ blockLimit → Summed ch ns fileHeaderSize 0
 none-summed ch ns h = record { few = omega arith; many = h; passed = refl; rest = refl; small = omega arith }
 
 module _ (ch : ℕ) (ns : List ℕ) (total i r : ℕ) (s : Summed ch ns total i) (h : i < length ns) (er : r ≡ byLength ch (getD ns i 0)) where
@@ -124,21 +128,21 @@ module _ (ch : ℕ) (ns : List ℕ) (p : ℕ) where
   many-channels h = refuses-with 3 (rw (ne-eqb ch 1 (λ e. omega arith), ne-eqb ch 2 (λ e. omega arith))) (λ e. omega arith)
 
   module _ (some : ch ≡ 0 → ⊥) (two : ch ≤ 2) where
-    pub many-lengths : 512 < length ns → Refused 5 ≡ estimateReply (estimateOf ch ns p)
+    pub many-lengths : blockLimit < length ns → Refused 5 ≡ estimateReply (estimateOf ch ns p)
     unfolding estimateRefusal firstDue
-    many-lengths h = refuses-with 5 (rw (one-or-two 0 ch 0 some two, lt-ltb 512 (length ns) h)) (λ e. omega arith)
+    many-lengths h = refuses-with 5 (rw (one-or-two 0 ch 0 some two, lt-ltb blockLimit (length ns) h)) (λ e. omega arith)
 
-    counted : length ns ≤ 512 → estimateRefusal ch ns ≡ firstDue (lengthsDue ch ns)
+    counted : length ns ≤ blockLimit → estimateRefusal ch ns ≡ firstDue (lengthsDue ch ns)
     unfolding estimateRefusal firstDue
-    counted h = rw (one-or-two 0 ch 0 some two, le-ltb 512 (length ns) h)
+    counted h = rw (one-or-two 0 ch 0 some two, le-ltb blockLimit (length ns) h)
 
     pub bad-length : (total i r : ℕ) → Summed ch ns total i → i < length ns → r ≡ byLength ch (getD ns i 0) → (r ≡ 0 → ⊥) → Refused r ≡ estimateReply (estimateOf ch ns p)
     bad-length total i r s h er z = refuses-with r (counted (s .many) ∙ first ch ns total i r s h er ∙ rw (ne-eqb r 0 z)) z
 
-    pub all-summed : (total i : ℕ) → Summed ch ns total i → length ns ≤ i → Length (total + 32 * p) ≡ estimateReply (estimateOf ch ns p)
+    pub all-summed : (total i : ℕ) → Summed ch ns total i → length ns ≤ i → Length (total + alignment * p) ≡ estimateReply (estimateOf ch ns p)
     unfolding estimateOf estimated lengthsDue sum firstDue
     all-summed total i s h =
         let e : drop i ns ≡ [] = drop-of-length-le ns {i = i} h in
         let z : estimateRefusal ch ns ≡ 0 = counted (s .many) ∙ s .passed ∙ rw e in
-        let t : total ≡ 128 + sum (forBlock ch) ns = let r = rw e at (s .rest) in omega arith in
+        let t : total ≡ fileHeaderSize + sum (forBlock ch) ns = let r = rw e at (s .rest) in omega arith in
         rw (z, t)

@@ -2,15 +2,22 @@
 ghost use mathlib.Core.Path.{_≡_};
 ghost use mathlib.Core.List.{[], _∷_};
 ghost use Prim.Native.Nat.{_+_, _*_, _≤_};
-ghost use Rattle.layout.specs.Records.{P, adpcmBytes};
-ghost use Rattle.layout.specs.Refusals.{due, firstDue, tooShort, tooLarge};
+ghost use Rattle.layout.specs.Records.{P, adpcmBytes, blockHeaderSize};
+ghost use Rattle.layout.specs.Refusals.{due, firstDue, tooShort, tooLarge, monoLimit};
 ghost use Rattle.writer.specs.Estimate.{estimateOf};
 ghost use Rattle.estimate.specs.EstimateAnswers.{estimateReply};
+use layout::limits::ALIGNMENT;
+use layout::limits::BLOCK_HEADER_SIZE;
+use layout::limits::BLOCK_LIMIT;
+use layout::limits::FILE_HEADER_SIZE;
 use sizes::adpcm_bytes;
 use sizes::align;
 use sizes::size_limit;
 
-const BLOCK_LIMIT: usize = 512;
+const HEADER: u64 = FILE_HEADER_SIZE as u64;
+
+// A cue takes at most the filled bytes of four.
+const CUE_MOST: u64 = ALIGNMENT as u64;
 
 pub enum EstimateReply {
     Refused(u32),
@@ -32,11 +39,12 @@ fn length_due(channels: usize, n: usize) -> u32
 
 // What a block with this length may take, without its cues.
 fn block_estimate(channels: usize, n: usize) -> u64
-    requires { ⌜ (channels ≤ 2) × (adpcmBytes n ≤ 65536) ⌝ }
-    ensures { λ r. ⌜ r ≡ 32 + channels * P (adpcmBytes n) ⌝ }
+    requires { ⌜ (channels ≤ 2) × (adpcmBytes n ≤ monoLimit) ⌝ }
+    ensures { λ r. ⌜ r ≡ blockHeaderSize + channels * P (adpcmBytes n) ⌝ }
 {
     let data = channels * align(adpcm_bytes(n));
-    32 + data as u64
+    let size = BLOCK_HEADER_SIZE + data;
+    size as u64
 }
 
 // The sum cannot wrap: at most 512 lengths are added, none of which is too large.
@@ -52,7 +60,7 @@ pub fn estimate(lengths: &[usize], channels: usize, p: u32) -> EstimateReply
     if lengths.len() > BLOCK_LIMIT {
         return EstimateReply::Refused(5);
     }
-    let mut sum: u64 = 128;
+    let mut sum: u64 = HEADER;
     let mut i: usize = 0;
     while i < lengths.len() {
         let n = lengths[i];
@@ -63,7 +71,7 @@ pub fn estimate(lengths: &[usize], channels: usize, p: u32) -> EstimateReply
         sum += block_estimate(channels, n);
         i += 1;
     }
-    let cues = 32 * p as u64;
+    let cues = CUE_MOST * p as u64;
     let length = sum + cues;
     EstimateReply::Length(length)
 }

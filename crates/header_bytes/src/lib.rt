@@ -3,6 +3,8 @@ use layout::Channel;
 use layout::DspFormat;
 use layout::MAGIC;
 use layout::fields::inside;
+use layout::limits::CHANNEL_SIZE;
+use layout::limits::FILE_HEADER_SIZE;
 use puts::put_bytes;
 use puts::put_context;
 use puts::put_i16;
@@ -47,7 +49,7 @@ pub fn put_coefficients(buf: &mut [u8], at: usize, coefficients: [i16; 16])
 pub fn put_channel(buf: &mut [u8], at: usize, c: Channel)
     ensures { λ _. ⌜ now (buf .exit) ≡ putAt (now (buf .entry)) at (channelBytes c) ⌝ }
 {
-    if inside(buf.len(), at, 56) {
+    if inside(buf.len(), at, CHANNEL_SIZE) {
         let format = c.format;
         put_u16(buf, at, looping_number(c.looping));
         put_u16(buf, at + 2, format_number(format));
@@ -82,7 +84,7 @@ fn put_magic(buf: &mut [u8], rate: u32, count: u32)
 pub fn put_file_header(buf: &mut [u8], rate: u32, count: u32, left: Channel, right: Channel)
     ensures { λ _. ⌜ now (buf .exit) ≡ putAt (now (buf .entry)) 0 (fileHeaderBytes rate count left right) ⌝ }
 {
-    if inside(buf.len(), 0, 128) {
+    if inside(buf.len(), 0, FILE_HEADER_SIZE) {
         put_magic(buf, rate, count);
         put_channel(buf, 16, left);
         put_channel(buf, 72, right);

@@ -7,7 +7,7 @@ use native.Mathlib.Omega.{arith}
 use borrow.Author.Tests.{lt-ltb, le-ltb, eq-eqb, ne-eqb, eqb-false, ltb-false}
 use lib.Dec.{eqb}
 use lib.ListN.{length, take, drop, replicate, length-append, length-take, length-drop}
-use Rattle.layout.specs.Records.{be32, noChannel, fileHeaderBytes}
+use Rattle.layout.specs.Records.{be32, noChannel, fileHeaderBytes, fileHeaderSize}
 use Rattle.layout.specs.Refusals.{firstDue}
 use Rattle.layout.specs.Puts.{putAt}
 use Rattle.layout.specs.declared.Channel.{Channel}
@@ -40,17 +40,17 @@ module _ (done : Bool) (n : ℕ) (last : Bool) (lent : ℕ) where
     unfolding firstDue
     finish-28 h = rw (d, ne-eqb n 0 some, h)
 
-    pub finish-14 : not last ≡ false → lent < 128 → 14 ≡ finishRefusal done n last lent
+    pub finish-14 : not last ≡ false → lent < fileHeaderSize → 14 ≡ finishRefusal done n last lent
     unfolding firstDue
-    finish-14 l h = rw (d, ne-eqb n 0 some, l, lt-ltb lent 128 h)
+    finish-14 l h = rw (d, ne-eqb n 0 some, l, lt-ltb lent fileHeaderSize h)
 
-    pub finish-fine : not last ≡ false → 128 ≤ lent → 0 ≡ finishRefusal done n last lent
+    pub finish-fine : not last ≡ false → fileHeaderSize ≤ lent → 0 ≡ finishRefusal done n last lent
     unfolding firstDue
-    finish-fine l h = rw (d, ne-eqb n 0 some, l, le-ltb lent 128 h)
+    finish-fine l h = rw (d, ne-eqb n 0 some, l, le-ltb lent fileHeaderSize h)
 
 -- ---- The header's bytes in the lent buffer
 
-module _ (h : List ℕ) (size : length h ≡ 128) where
+module _ (h : List ℕ) (size : length h ≡ fileHeaderSize) where
   start-15 : length (take 15 h) ≡ 15
   start-15 = length-take 15 h ∙ omega arith
 
@@ -60,12 +60,12 @@ module _ (h : List ℕ) (size : length h ≡ 128) where
   mark-1 : length (take 1 (drop 15 h)) ≡ 1
   mark-1 = length-take 1 (drop 15 h) ∙ omega (arith, length-drop 15 h)
 
-  handed-128 : length (handed (headerWrites h)) ≡ 128
+  handed-128 : length (handed (headerWrites h)) ≡ fileHeaderSize
   unfolding handed
   handed-128 = simp (length-append, start-15, rest-112, mark-1)
 
-  pub handed-out : (l l₁ l₂ l₃ : List ℕ) → 128 ≤ length l → l₁ ≡ putAt l 0 (take 15 h) → l₂ ≡ putAt l₁ 15 (take 112 (drop 16 h)) → l₃ ≡ putAt l₂ 127 (take 1 (drop 15 h))
-      → l₃ ≡ handed (headerWrites h) ++ drop 128 l
+  pub handed-out : (l l₁ l₂ l₃ : List ℕ) → fileHeaderSize ≤ length l → l₁ ≡ putAt l 0 (take 15 h) → l₂ ≡ putAt l₁ 15 (take 112 (drop 16 h)) → l₃ ≡ putAt l₂ 127 (take 1 (drop 15 h))
+      → l₃ ≡ handed (headerWrites h) ++ drop fileHeaderSize l
   unfolding handed
   handed-out l l₁ l₂ l₃ room e₁ e₂ e₃ =
       let a : Put l 0 15 (take 15 h) l₁ = record { size = start-15; is = e₁ } in
@@ -97,11 +97,11 @@ filled-16 : (n : ℕ) (l : ChannelBlock) → length (l .coefficients) ≡ 16 →
 unfolding filled
 filled-16 n l h = h
 
-whole : (b : List ℕ) → length b ≡ 128 → putAt (replicate 128 0) 0 b ≡ b
-whole b h = putAt-in (replicate 128 0) 0 b (omega arith) ∙ rw h (append-nil b)
+whole : (b : List ℕ) → length b ≡ fileHeaderSize → putAt (replicate fileHeaderSize 0) 0 b ≡ b
+whole b h = putAt-in (replicate fileHeaderSize 0) 0 b (omega arith) ∙ rw h (append-nil b)
 
 pub header-is : (b : List ℕ) (ch n k : ℕ) (l r : ChannelBlock) (x y : Channel) → length (l .coefficients) ≡ 16 → length (r .coefficients) ≡ 16
-    → x ≡ filled n l → y ≡ second ch n r → k ≡ ch % 4294967296 → b ≡ putAt (replicate 128 0) 0 (fileHeaderBytes (l .rate) k x y) → b ≡ headerFor ch n l r
+    → x ≡ filled n l → y ≡ second ch n r → k ≡ ch % 4294967296 → b ≡ putAt (replicate fileHeaderSize 0) 0 (fileHeaderBytes (l .rate) k x y) → b ≡ headerFor ch n l r
 unfolding headerFor
 header-is b ch n k l r x y hl hr ex ey ek e =
     let size = file-header-length (l .rate) ch (filled n l) (second ch n r) (filled-16 n l hl) (second-16 ch n r hr) in
@@ -131,10 +131,10 @@ module _ (w : HpsWriter) (lent : List ℕ) (g : Good w) (r : ℕ) (e : r ≡ fin
         let b = eqb-false (w .blocks) 0 (passed-finish _ _ _ _ (sym e ∙ z) .no27) in
         omega (arith, g .counted, g .sums, g .many)
 
-    pub room : 128 ≤ length lent
-    room = ltb-false (length lent) 128 (passed-finish _ _ _ _ (sym e ∙ z) .no14)
+    pub room : fileHeaderSize ≤ length lent
+    room = ltb-false (length lent) fileHeaderSize (passed-finish _ _ _ _ (sym e ∙ z) .no14)
 
-    pub finish-accepted : (h l : List ℕ) (v : HpsWriter) → h ≡ headerOf w → length h ≡ 128 → l ≡ handed (headerWrites h) ++ drop 128 lent → v ≡ afterFinish w
+    pub finish-accepted : (h l : List ℕ) (v : HpsWriter) → h ≡ headerOf w → length h ≡ fileHeaderSize → l ≡ handed (headerWrites h) ++ drop fileHeaderSize lent → v ≡ afterFinish w
         → Leaves (record { reply = Accepted (w .offset); places = record { offset = 0; length = 15 } ∷ record { offset = 16; length = 112 } ∷ record { offset = 15; length = 1 } ∷ []; writer = v }) l
     unfolding finishOf
     finish-accepted h l v eh size el ev =

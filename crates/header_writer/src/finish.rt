@@ -3,6 +3,7 @@ use header_bytes::put_file_header;
 use header_records::channels::no_channel;
 use layout::Channel;
 use layout::DspFormat;
+use layout::limits::FILE_HEADER_SIZE;
 use puts::put_bytes;
 use writer::ChannelBlock;
 use writer::Finished;
@@ -16,8 +17,7 @@ ghost use lib.ListN.{length, drop, replicate};
 ghost use Rattle.writer.specs.Loading.{finishRefusal, filled, second, headerFor, headerWrites};
 ghost use Rattle.writer.specs.WritesAndCuttingRule.{handed};
 ghost use Rattle.writer.specs.Calls.{Good, noPlace, finishOf, finished};
-
-const HEADER_LENGTH: usize = 128;
+ghost use Rattle.layout.specs.Records.{fileHeaderSize};
 
 // The header's writes, and none.
 const START: Place = Place {
@@ -53,7 +53,7 @@ fn finish_due(finished: bool, blocks: usize, last: bool, lent: usize) -> u32
     if !last {
         return 28;
     }
-    if lent < HEADER_LENGTH {
+    if lent < FILE_HEADER_SIZE {
         return 14;
     }
     0
@@ -96,24 +96,29 @@ fn low_bits(n: usize) -> u32
 }
 
 // The file header of a stream with these first blocks.
-fn header(channels: usize, sum: u64, left: ChannelBlock, right: ChannelBlock) -> [u8; 128]
+fn header(
+    channels: usize,
+    sum: u64,
+    left: ChannelBlock,
+    right: ChannelBlock,
+) -> [u8; FILE_HEADER_SIZE]
     requires { ⌜ (0 < sum) × (sum ≤ 4294967296) ⌝ }
     ensures { λ r. ⌜ r ≡ headerFor channels sum left right ⌝ }
 {
     let l = filled(sum, left);
     let r = second(channels, sum, right);
-    let mut bytes = [0u8; 128];
+    let mut bytes = [0u8; FILE_HEADER_SIZE];
     put_file_header(&mut bytes, left.rate, low_bits(channels), l, r);
     bytes
 }
 
 // The header's bytes in the order of the writes: 0-14, 16-127, 15.
 fn hand_out(header: &[u8], lent: &mut [u8])
-    requires { ⌜ (length (now header) ≡ 128) × (128 ≤ length (now lent)) ⌝ }
-    ensures { λ _. ⌜ now (lent .exit) ≡ handed (headerWrites (now (header .entry))) ++ drop 128 (now (lent .entry)) ⌝ }
+    requires { ⌜ (length (now header) ≡ fileHeaderSize) × (fileHeaderSize ≤ length (now lent)) ⌝ }
+    ensures { λ _. ⌜ now (lent .exit) ≡ handed (headerWrites (now (header .entry))) ++ drop fileHeaderSize (now (lent .entry)) ⌝ }
 {
     put_bytes(lent, 0, &header[..15]);
-    put_bytes(lent, 15, &header[16..HEADER_LENGTH]);
+    put_bytes(lent, 15, &header[16..FILE_HEADER_SIZE]);
     put_bytes(lent, 127, &header[15..16]);
 }
 

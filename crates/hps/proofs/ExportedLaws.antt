@@ -18,7 +18,7 @@ use Rattle.writer.specs.Calls.{Outcome}
 use Rattle.estimate.specs.EstimateAnswers.{estimateReply}
 use Rattle.estimate.specs.declared.EstimateReply.{EstimateReply}
 use Rattle.reader.specs.OpeningAndReading.{Opened, blockRead, Remaining}
-use Rattle.kept_reader.specs.KeptReader.{openedBytes}
+use Rattle.kept_reader.specs.KeptReader.{openedBytes, openedSize}
 use Rattle.reader.specs.declared.HpsReader.{HpsReader}
 use Rattle.listing.specs.MarkingKey.{listingLines, linesFrom}
 use Rattle.listing.specs.Filling.{FilledIs, linesFitting}
@@ -50,32 +50,32 @@ estimate-given (accepted m) q n before e f = cc
 -- ---- Opening
 
 module _ (kept s : List ℕ) (o : Opened) where
-  module _ (h : length kept < 2184) where
+  module _ (h : length kept < openedSize) where
     pub no-room : 252 ≡ openNumber (length kept) o
     no-room = of o
       where
         of : (o : Opened) → 252 ≡ openNumber (length kept) o
-        of (Opened.refused n) = rw (lt-ltb (length kept) 2184 h)
-        of (Opened.opened r) = rw (lt-ltb (length kept) 2184 h)
+        of (Opened.refused n) = rw (lt-ltb (length kept) openedSize h)
+        of (Opened.opened r) = rw (lt-ltb (length kept) openedSize h)
 
     pub no-room-kept : kept ≡ keptAfter kept s o
     no-room-kept = of o
       where
         of : (o : Opened) → kept ≡ keptAfter kept s o
         of (Opened.refused n) = refl
-        of (Opened.opened r) = rw (lt-ltb (length kept) 2184 h)
+        of (Opened.opened r) = rw (lt-ltb (length kept) openedSize h)
 
-  pub open-refused : (n : ℕ) → o ≡ Opened.refused n → 2184 ≤ length kept → n ≡ openNumber (length kept) o
-  open-refused n e h = rw (e, le-ltb (length kept) 2184 h)
+  pub open-refused : (n : ℕ) → o ≡ Opened.refused n → openedSize ≤ length kept → n ≡ openNumber (length kept) o
+  open-refused n e h = rw (e, le-ltb (length kept) openedSize h)
 
   pub open-left : (n : ℕ) → o ≡ Opened.refused n → kept ≡ keptAfter kept s o
   open-left n e = rw e
 
-  pub open-opened : (r : HpsReader) → o ≡ Opened.opened r → 2184 ≤ length kept → 0 ≡ openNumber (length kept) o
-  open-opened r e h = rw (e, le-ltb (length kept) 2184 h)
+  pub open-opened : (r : HpsReader) → o ≡ Opened.opened r → openedSize ≤ length kept → 0 ≡ openNumber (length kept) o
+  open-opened r e h = rw (e, le-ltb (length kept) openedSize h)
 
-  pub open-kept : {after : List ℕ} (r : HpsReader) → o ≡ Opened.opened r → 2184 ≤ length kept → after ≡ putAt kept 0 (openedBytes s r) → after ≡ keptAfter kept s o
-  open-kept r e h f = rw (e, le-ltb (length kept) 2184 h) f
+  pub open-kept : {after : List ℕ} (r : HpsReader) → o ≡ Opened.opened r → openedSize ≤ length kept → after ≡ putAt kept 0 (openedBytes s r) → after ≡ keptAfter kept s o
+  open-kept r e h f = rw (e, le-ltb (length kept) openedSize h) f
 
 -- ---- A block read
 

@@ -16,6 +16,7 @@ use Rattle.kept_reader.specs.KeptReader.{partIn, readerIn}
 use Rattle.kept_reader.proofs.PartLaws.{block-same, remaining-same, same-count}
 use Rattle.hps.specs.Exported.{onRecord, blockNumber, BlockLent, blockLent, remainingNumber, addressesAfter}
 use Rattle.hps.proofs.ExportedLaws.{no-record, a-record, no-block, no-sum}
+use Rattle.layout.specs.Refusals.{blockLimit}
 
 -- ---- The record
 
@@ -31,7 +32,7 @@ module _ (kept : List ℕ) (from to : ℕ) (r : HpsReader) (e : r ≡ partIn kep
 
 -- ---- Block read
 
-module _ (s kept : List ℕ) (ch i to : ℕ) (r : HpsReader) (h : i < 512 → i < to) (e : r ≡ partIn kept i to) where
+module _ (s kept : List ℕ) (ch i to : ℕ) (r : HpsReader) (h : i < blockLimit → i < to) (e : r ≡ partIn kept i to) where
   pub whole-block : {q : BlockCall} → q ≡ blockCall i (blockRead s r ch i) → q ≡ blockCall i (blockRead s (readerIn kept) ch i)
   whole-block f =
       let same : blockRead s r ch i ≡ blockRead s (readerIn kept) ch i = rw e (block-same s kept ch i to h) in
@@ -74,14 +75,14 @@ module _ (i : ℕ) (st en le sc : ℕ) (la ol : ℤ) (q : BlockCall) where
 
 -- ---- Addresses remaining
 
-module _ (s kept : List ℕ) (i : ℕ) (r : HpsReader) (e : r ≡ partIn kept i 512) where
+module _ (s kept : List ℕ) (i : ℕ) (r : HpsReader) (e : r ≡ partIn kept i blockLimit) where
   pub whole-sum : {q : RemainingReply} → q ≡ remainingReply (dataRemaining s r i) → q ≡ remainingReply (dataRemaining s (readerIn kept) i)
   whole-sum f =
       let same : dataRemaining s r i ≡ dataRemaining s (readerIn kept) i = rw e (remaining-same s kept i) in
       f ∙ ap remainingReply same
 
   pub sum-without : (before : ℕ) → r .count ≡ 0 → before ≡ addressesAfter (readerIn kept) before (dataRemaining s (readerIn kept) i)
-  sum-without before z = no-sum (readerIn kept) before (dataRemaining s (readerIn kept) i) (sym (count-is kept i 512 r e) ∙ z)
+  sum-without before z = no-sum (readerIn kept) before (dataRemaining s (readerIn kept) i) (sym (count-is kept i blockLimit r e) ∙ z)
 
   pub sum-refused : (before n : ℕ) (q : RemainingReply) (a : Remaining) → q ≡ remainingReply a → q ≡ RemainingReply.Refused n → (n ≡ remainingNumber a) × (before ≡ addressesAfter (readerIn kept) before a)
   sum-refused before n q (Remaining.refused m) f g = (cc, refl)
@@ -91,7 +92,7 @@ module _ (s kept : List ℕ) (i : ℕ) (r : HpsReader) (e : r ≡ partIn kept i 
   sum-given before n q (Remaining.refused m) z f g = absurd (let z : _≡_ {A = ℕ} 0 1 = cc in omega arith)
   sum-given before n q (Remaining.addresses m) z f g =
       let k : n ≡ m = cc in
-      (refl, k ∙ some m (λ t. z (count-is kept i 512 r e ∙ t)))
+      (refl, k ∙ some m (λ t. z (count-is kept i blockLimit r e ∙ t)))
     where
       some : (m : ℕ) → (readerIn kept .count ≡ 0 → ⊥) → m ≡ addressesAfter (readerIn kept) before (Remaining.addresses m)
       some m h = rw (ne-eqb (readerIn kept .count) 0 h)

@@ -9,10 +9,10 @@ use kept_cues::cue_calls;
 use kept_opened::put_opened;
 use kept_reader::opened::OPENED_SIZE;
 use kept_reader::opened::reader_in;
+use layout::limits::BLOCK_LIMIT;
 use listing::listing::fill;
 use listing_start::start_listing;
 use opening::open;
-use reader::BLOCK_LIMIT;
 use reader::answers::OpenReply;
 use remaining::RemainingReply;
 use remaining::data_remaining;
@@ -26,6 +26,7 @@ ghost use Rattle.hps.specs.Exported.{openNumber, keptAfter, onRecord, bl
 ghost use Rattle.layout.specs.Puts.{putAt};
 ghost use Rattle.listing.specs.MarkingKey.{listingLines};
 ghost use Rattle.listing.specs.Filling.{linesFitting};
+ghost use Rattle.layout.specs.Refusals.{blockLimit};
 
 // Opens a slot, and keeps the record in the lent bytes.
 #[no_mangle]
@@ -51,7 +52,7 @@ pub extern "C" fn hps_open(slot: &[u8], kept: &mut [u8]) -> u32
 
 // The position after this one, no further than a record has blocks.
 fn past(position: usize) -> usize
-    ensures { λ n. ⌜ (position < 512 → position < n) ⌝ }
+    ensures { λ n. ⌜ (position < blockLimit → position < n) ⌝ }
 {
     if position < BLOCK_LIMIT {
         position + 1

@@ -21,18 +21,19 @@ use Rattle.kept_cues.specs.KeptCues.{cursorIn, cursorBytes, putCursor, C
 use Rattle.kept_cues.specs.declared.CuesFilled.{CuesFilled}
 use Rattle.kept_cues.proofs.CursorLaws.{cursor-put}
 use Rattle.kept_cues.proofs.FillLaws.{none-given}
+use Rattle.layout.specs.Refusals.{blockLimit}
 
 -- the parts of a record that bytes hold
 module _ (kept : List ℕ) (r : HpsReader) (e : r ≡ readerIn kept) where
   pub table-long : r .blocks ≤ length (r .offsets)
-  table-long = let s = part-shape kept 0 512 in rw e (omega (arith, s .offsets, s .readable .blocks))
+  table-long = let s = part-shape kept 0 blockLimit in rw e (omega (arith, s .offsets, s .readable .blocks))
 
   pub two-channels : length (r .channels) ≡ 2
-  two-channels = rw e (part-shape kept 0 512 .channels)
+  two-channels = rw e (part-shape kept 0 blockLimit .channels)
 
   pub parts : (f : DspFormat) → channelIn r 0 .format ≡ f → PartsOf r (r .offsets) (r .blocks) (r .«loop_start») f
   parts f h =
-      let s = part-shape kept 0 512 in
+      let s = part-shape kept 0 blockLimit in
       record { readable = rw e (s .readable); two = rw e (s .channels); table = rw e (s .offsets); offsets = refl; blocks = refl; start = refl; format = h }
 
 -- ---- Their number

@@ -20,12 +20,13 @@ use Rattle.writer.specs.declared.LoopAt.{LoopAt}
 use Rattle.writer.specs.declared.HpsWriter.{HpsWriter}
 use Rattle.push_plan.specs.PushPlan.{streamOf, writerOf}
 use Rattle.push_plan.specs.declared.Stream.{Stream}
-use Rattle.kept_sides.specs.KeptSides.{cuesFrom, tableIn}
+use Rattle.kept_sides.specs.KeptSides.{cuesFrom, tableIn, cuesAt, leftAt, rightAt, loaderSize}
 use Rattle.kept_writer.specs.KeptWriter.{fieldsIn, placesGood, sumsGood, marksGood, loopsWithin, sensible, streamIn, writerIn}
 use Rattle.kept_writer.proofs.KeptLaws.{kept-good}
 use Rattle.kept_table.specs.KeptTable.{tablePut, firstOf}
 use Rattle.kept_puts.proofs.SameLaws.{word-same, long-same, side-same}
 use Rattle.kept_table.proofs.TableLaws.{front-left, rest-left, count-back}
+use Rattle.layout.specs.Refusals.{cueLimit}
 
 -- ---- Bytes that hold a record
 
@@ -34,20 +35,20 @@ both-true true b h = (refl, h)
 both-true false b h = apart (sym h)
 
 pub record Holds (kept : List ℕ) : Type 0 where
-  pub room : 3256 ≤ length kept
+  pub room : loaderSize ≤ length kept
   pub is : streamIn kept ≡ fieldsIn kept
 
 pub holds : (kept : List ℕ) → (streamIn kept .slot ≡ 0 → ⊥) → Holds kept
 unfolding streamIn
 holds kept h =
-    by-cases (leb 3256 (length kept) and sensible (fieldsIn kept))
-    (λ q. record { room = leb-true 3256 (length kept) (both-true (leb 3256 (length kept)) _ q .0); is = rw q })
+    by-cases (leb loaderSize (length kept) and sensible (fieldsIn kept))
+    (λ q. record { room = leb-true loaderSize (length kept) (both-true (leb loaderSize (length kept)) _ q .0); is = rw q })
     (λ q. absurd (h (rw q)))
 
 -- sensible numbers are what a record in bytes needs
-pub held-is : (kept : List ℕ) → 3256 ≤ length kept → sensible (fieldsIn kept) ≡ true → streamIn kept ≡ fieldsIn kept
+pub held-is : (kept : List ℕ) → loaderSize ≤ length kept → sensible (fieldsIn kept) ≡ true → streamIn kept ≡ fieldsIn kept
 unfolding streamIn
-held-is kept h e = rw (le-leb 3256 (length kept) h, e)
+held-is kept h e = rw (le-leb loaderSize (length kept) h, e)
 
 -- ---- Its numbers can be those of a record
 
@@ -78,21 +79,21 @@ cues-long s at (suc n) = ap suc (cues-long s (at + 24) n)
 
 read-tailed : (s : List ℕ) (at n : ℕ) → Tailed (tableIn s at n) n
 unfolding tableIn firstOf
-read-tailed s at n = ap (λ (l : List Cue). l ++ replicate (128 - n) noCue) (take-at (cuesFrom s at n) (replicate (128 - n) noCue) n (cues-long s at n))
+read-tailed s at n = ap (λ (l : List Cue). l ++ replicate (cueLimit - n) noCue) (take-at (cuesFrom s at n) (replicate (cueLimit - n) noCue) n (cues-long s at n))
 
-insert-tailed : (t : List Cue) (n : ℕ) (c : Cue) → length t ≡ 128 → n < 128 → Tailed t n → Tailed (insert c (take n t) ++ drop (n + 1) t) (n + 1)
+insert-tailed : (t : List Cue) (n : ℕ) (c : Cue) → length t ≡ cueLimit → n < cueLimit → Tailed t n → Tailed (insert c (take n t) ++ drop (n + 1) t) (n + 1)
 unfolding firstOf
 insert-tailed t n c len few e =
     let h : List Cue = take n t in
     let lh : length h ≡ n = length-take-le n t (omega arith) in
-    let z : 128 - n ≡ suc (128 - (n + 1)) = omega arith in
-    let d : drop (n + 1) t ≡ replicate (128 - (n + 1)) noCue =
+    let z : cueLimit - n ≡ suc (cueLimit - (n + 1)) = omega arith in
+    let d : drop (n + 1) t ≡ replicate (cueLimit - (n + 1)) noCue =
     ap (drop (n + 1)) (sym e)
-    ∙ ap (λ (m : ℕ). drop (m + 1) (h ++ replicate (128 - n) noCue)) (sym lh)
-    ∙ drop-append-add h (replicate (128 - n) noCue) 1
+    ∙ ap (λ (m : ℕ). drop (m + 1) (h ++ replicate (cueLimit - n) noCue)) (sym lh)
+    ∙ drop-append-add h (replicate (cueLimit - n) noCue) 1
     ∙ ap (λ (m : ℕ). drop 1 (replicate m noCue)) z in
     let li : length (insert c h) ≡ n + 1 = insert-length c h ∙ omega arith in
-    rw d (ap (λ (l : List Cue). l ++ replicate (128 - (n + 1)) noCue) (take-at (insert c h) (replicate (128 - (n + 1)) noCue) (n + 1) li))
+    rw d (ap (λ (l : List Cue). l ++ replicate (cueLimit - (n + 1)) noCue) (take-at (insert c h) (replicate (cueLimit - (n + 1)) noCue) (n + 1) li))
 
 -- ---- After a cue
 
@@ -111,28 +112,28 @@ module _ (w : HpsWriter) (c : Cue) where
       let f = passed-cue _ _ _ (eqb-true (cueRefusal (w .blocks) (held w) c) 0 q) in
       rw q (by-cases (has c (held w)) (λ e. rw e t)
       (λ e.
-      let l = leb-false 128 (length (held w)) (rw e at (f .no20)) in
+      let l = leb-false cueLimit (length (held w)) (rw e at (f .no20)) in
       let k = length-take-le (w .count) (w .cues) (omega (arith, g .few, g .table)) in
       rw e (insert-tailed (w .cues) (w .count) c (g .table) (omega arith) t))))
       (λ q. rw q t)
 
-module _ (kept : List ℕ) (t : List Cue) (n : ℕ) (len : length t ≡ 128) (few : n ≤ 128) (room : 3256 ≤ length kept) where
+module _ (kept : List ℕ) (t : List Cue) (n : ℕ) (len : length t ≡ cueLimit) (few : n ≤ cueLimit) (room : loaderSize ≤ length kept) where
   fields-after : fieldsIn (tablePut kept t n) ≡ streamOf (withTable (writerOf t (fieldsIn kept)) t n)
   unfolding fieldsIn
   fields-after =
       let f = front-left kept t n len few room in
       let r = rest-left kept t n len few room in
-      rw (long-same f 0 (omega arith) (omega arith), long-same f 8 (omega arith) (omega arith), count-back kept t n len few room, long-same r 24 (omega arith) (omega arith), long-same r 32 (omega arith) (omega arith), long-same r 40 (omega arith) (omega arith), long-same r 48 (omega arith) (omega arith), long-same r 56 (omega arith) (omega arith), long-same r 64 (omega arith) (omega arith), word-same r 72 (omega arith) (omega arith), word-same r 76 (omega arith) (omega arith), word-same r 80 (omega arith) (omega arith), word-same r 84 (omega arith) (omega arith), side-same r 88 (omega arith) (omega arith), side-same r 136 (omega arith) (omega arith))
+      rw (long-same f 0 (omega arith) (omega arith), long-same f 8 (omega arith) (omega arith), count-back kept t n len few room, long-same r 24 (omega arith) (omega arith), long-same r 32 (omega arith) (omega arith), long-same r 40 (omega arith) (omega arith), long-same r 48 (omega arith) (omega arith), long-same r 56 (omega arith) (omega arith), long-same r 64 (omega arith) (omega arith), word-same r 72 (omega arith) (omega arith), word-same r 76 (omega arith) (omega arith), word-same r 80 (omega arith) (omega arith), word-same r 84 (omega arith) (omega arith), side-same r leftAt (omega arith) (omega arith), side-same r rightAt (omega arith) (omega arith))
 
 -- bytes that hold a record: put into them is the table of the record that the call gives
 pub cue-after : (kept : List ℕ) (c : Cue) (after : HpsWriter) (put : List ℕ) → (streamIn kept .slot ≡ 0 → ⊥) → after ≡ cueOf (writerIn kept) c .writer
-    → put ≡ tablePut kept (after .cues) (after .count) → tableIn put 184 (after .count) ≡ firstOf (after .cues) (after .count)
+    → put ≡ tablePut kept (after .cues) (after .count) → tableIn put cuesAt (after .count) ≡ firstOf (after .cues) (after .count)
     → writerIn put ≡ cueOf (writerIn kept) c .writer
 cue-after kept c after put some e p b =
     let w = writerIn kept in
     let h = holds kept some in
     let g : Good after = rw e (cue-kept w (kept-good kept) c) in
-    let tailed : firstOf (after .cues) (after .count) ≡ after .cues = rw e (cue-tailed w c (kept-good kept) (read-tailed kept 184 (streamIn kept .count))) in
+    let tailed : firstOf (after .cues) (after .count) ≡ after .cues = rw e (cue-tailed w c (kept-good kept) (read-tailed kept cuesAt (streamIn kept .count))) in
     let stream : streamOf after ≡ streamOf (withTable w (w .cues) (after .count)) = rw e (cue-stream w c) in
     let fields : fieldsIn put ≡ streamOf after =
     ap fieldsIn p
@@ -140,6 +141,6 @@ cue-after kept c after put some e p b =
     ∙ ap (λ (s : Stream). streamOf (withTable (writerOf [] s) [] (after .count))) (sym (h .is))
     ∙ sym stream in
     let long : length put ≡ length kept = ap length p ∙ front-left kept (after .cues) (after .count) (g .table) (g .few) (h .room) .long in
-    let room : 3256 ≤ length put = omega (arith, h .room) in
+    let room : loaderSize ≤ length put = omega (arith, h .room) in
     let is : streamIn put ≡ streamOf after = held-is put room (ap sensible fields ∙ good-sensible after g) ∙ fields in
     rw is (ap (λ (t : List Cue). writerOf t (streamOf after)) (b ∙ tailed)) ∙ e

@@ -33,7 +33,7 @@ use Rattle.push_plan.specs.declared.Stream.{Stream}
 use Rattle.kept_reader.specs.KeptReader.{be64, wordAt, longAt}
 use Rattle.kept_reader.proofs.LongLaws.{be64-length, word-back, long-back}
 use Rattle.kept_reader.proofs.ReadBackLaws.{Agree}
-use Rattle.kept_sides.specs.KeptSides.{halfAt, signedAt, signedFrom, sideIn, cuesFrom, tableIn}
+use Rattle.kept_sides.specs.KeptSides.{halfAt, signedAt, signedFrom, sideIn, cuesFrom, tableIn, cuesAt, leftAt, rightAt, loaderSize}
 use Rattle.kept_sides.proofs.SameLaws.{word-same, long-same, side-same, table-same}
 use Rattle.kept_puts.specs.KeptNumbers.{modeNumber, loopNumber, flagNumber, placesBytes, sumsBytes, marksBytes, numberBytes}
 use Rattle.kept_puts.proofs.NumberLaws.{places-length, sums-length, numbers-length}
@@ -45,6 +45,7 @@ use Rattle.kept_record.specs.KeptRecord.{sideBytes, recordBytes}
 use Rattle.kept_record.proofs.RecordLaws.{side-length}
 use Rattle.kept_loading.proofs.CallLaws.{apart-replies}
 use Rattle.kept_loading.proofs.AfterLaws.{holds, good-sensible}
+use Rattle.layout.specs.Refusals.{slotLimit}
 
 -- ---- Numbers
 
@@ -111,20 +112,20 @@ flag-back true = (omega arith, refl)
 flag-back false = (omega arith, refl)
 
 -- an offset in a slot
-loop-back : (l : LoopAt) (o : ℕ) → ((n : ℕ) → l ≡ LoopAt.At n → n ≤ o) → o ≤ 16777216 → Long (loopNumber l) × (loopOf (loopNumber l) ≡ l)
+loop-back : (l : LoopAt) (o : ℕ) → ((n : ℕ) → l ≡ LoopAt.At n → n ≤ o) → o ≤ slotLimit → Long (loopNumber l) × (loopOf (loopNumber l) ≡ l)
 unfolding loopOf
 loop-back LoopAt.Nowhere o h s = (omega arith, refl)
 loop-back (LoopAt.At n) o h s =
     let le = h n refl in
     (omega arith, rw (ne-eqb n 18446744073709551615 (far n (omega arith))))
   where
-    far : (n : ℕ) → n ≤ 16777216 → n ≡ 18446744073709551615 → ⊥
+    far : (n : ℕ) → n ≤ slotLimit → n ≡ 18446744073709551615 → ⊥
     far n s z = omega arith
 
 -- ---- The numbers of a record
 
 pub numbers-back : (k : List ℕ) (s : Stream) (t : List Cue) → Good (writerOf t s) → Long (s .channels) → At k 0 (numberBytes s)
-    → sideIn k 88 ≡ s .left → sideIn k 136 ≡ s .right → fieldsIn k ≡ s
+    → sideIn k leftAt ≡ s .left → sideIn k rightAt ≡ s .right → fieldsIn k ≡ s
 unfolding fieldsIn numberBytes
 numbers-back k s t g ch a l r =
     let places = placesBytes (s .slot) (s .channels) (s .count) (s .next) in
@@ -195,12 +196,12 @@ side-back {k} off b f a =
 -- ---- The record
 
 -- bytes with these numbers and sides, and with the table of other bytes
-pub record-back : (k k′ : List ℕ) (s : Stream) (t : List Cue) → 3256 ≤ length k → length k′ ≡ length k → Good (writerOf t s) → fieldsIn k′ ≡ s → Agree k′ k 184 3256
-    → writerIn k′ ≡ writerOf (tableIn k 184 (s .count)) s
+pub record-back : (k k′ : List ℕ) (s : Stream) (t : List Cue) → loaderSize ≤ length k → length k′ ≡ length k → Good (writerOf t s) → fieldsIn k′ ≡ s → Agree k′ k cuesAt loaderSize
+    → writerIn k′ ≡ writerOf (tableIn k cuesAt (s .count)) s
 record-back k k′ s t room long g e a =
     let is : streamIn k′ ≡ s = sym (holds-record k′ (omega arith) s (sym e) (sensible s) refl (good-sensible (writerOf t s) g)) in
     let few = g .few in
-    rw is (ap (λ (c : List Cue). writerOf c s) (table-same k′ k 184 3256 a long (s .count) 184 (omega arith) (omega arith)))
+    rw is (ap (λ (c : List Cue). writerOf c s) (table-same k′ k cuesAt loaderSize a long (s .count) cuesAt (omega arith) (omega arith)))
 
 -- ---- After finish
 
@@ -209,7 +210,7 @@ abbrev marked : Stream → Stream
 marked s =
     record { slot = s .slot; channels = s .channels; mode = s .mode; count = s .count; next = s .next; id = s .id; base = s .base; offset = s .offset; loopat = s .loopat; blocks = s .blocks; sum = s .sum; left = s .left; right = s .right; last = s .last; finished = true }
 
-mark-back : (k : List ℕ) → 3256 ≤ length k → fieldsIn (putAt k 84 (be32 1)) ≡ marked (fieldsIn k)
+mark-back : (k : List ℕ) → loaderSize ≤ length k → fieldsIn (putAt k 84 (be32 1)) ≡ marked (fieldsIn k)
 unfolding fieldsIn
 mark-back k room =
     let k′ = putAt k 84 (be32 1) in
@@ -217,11 +218,11 @@ mark-back k room =
     let n = be32-length 1 in
     let from = 84 + length (be32 1) in
     let a = same-before k 84 (be32 1) (omega arith) 0 84 (omega arith) .byte in
-    let b = same-after k 84 (be32 1) (omega arith) from 3256 (omega arith) .byte in
+    let b = same-after k 84 (be32 1) (omega arith) from loaderSize (omega arith) .byte in
     let l : (at : ℕ) → at + 8 ≤ 84 → longAt k′ at ≡ longAt k at = λ at h. long-same k′ k 0 84 a long at (omega arith) h in
     let w : (at : ℕ) → at + 4 ≤ 84 → wordAt k′ at ≡ wordAt k at = λ at h. word-same k′ k 0 84 a long at (omega arith) h in
     let m : wordAt k′ 84 ≡ 1 = word-back 84 (omega arith) (put-there k 84 (be32 1) (omega arith)) in
-    rw (l 0 (omega arith), l 8 (omega arith), l 16 (omega arith), l 24 (omega arith), l 32 (omega arith), l 40 (omega arith), l 48 (omega arith), l 56 (omega arith), l 64 (omega arith), w 72 (omega arith), w 76 (omega arith), w 80 (omega arith), m, side-same k′ k from 3256 b long 88 (omega arith) (omega arith), side-same k′ k from 3256 b long 136 (omega arith) (omega arith))
+    rw (l 0 (omega arith), l 8 (omega arith), l 16 (omega arith), l 24 (omega arith), l 32 (omega arith), l 40 (omega arith), l 48 (omega arith), l 56 (omega arith), l 64 (omega arith), w 72 (omega arith), w 76 (omega arith), w 80 (omega arith), m, side-same k′ k from loaderSize b long leftAt (omega arith) (omega arith), side-same k′ k from loaderSize b long rightAt (omega arith) (omega arith))
 
 finish-back : (k : List ℕ) → (streamIn k .slot ≡ 0 → ⊥) → (lent : ℕ) → finishRefusal (streamIn k .finished) (streamIn k .blocks) (streamIn k .last) lent ≡ 0
     → writerIn (putAt k 84 (be32 1)) ≡ afterFinish (writerIn k)
@@ -229,9 +230,9 @@ unfolding afterFinish
 finish-back k h lent z =
     let there = holds k h in
     let n = be32-length 1 in
-    record-back k (putAt k 84 (be32 1)) (marked (streamIn k)) (tableIn k 184 (streamIn k .count)) (there .room) (putAt-length k 84 (be32 1)) (finish-good (writerIn k) lent (kept-good k) z)
+    record-back k (putAt k 84 (be32 1)) (marked (streamIn k)) (tableIn k cuesAt (streamIn k .count)) (there .room) (putAt-length k 84 (be32 1)) (finish-good (writerIn k) lent (kept-good k) z)
     (mark-back k (there .room) ∙ ap marked (sym (there .is)))
-    (same-after k 84 (be32 1) (omega (arith, there .room)) 184 3256 (omega arith) .byte)
+    (same-after k 84 (be32 1) (omega (arith, there .room)) cuesAt loaderSize (omega arith) .byte)
 
 module _ (k : List ℕ) (lent : List ℕ) (n : ℕ) where
   pub finish-after : (streamIn k .slot ≡ 0 → ⊥) → replyOf (finishOf (writerIn k) lent .answer) ≡ Accepted n → writerIn (putAt k 84 (be32 1)) ≡ finishOf (writerIn k) lent .writer
@@ -242,8 +243,8 @@ module _ (k : List ℕ) (lent : List ℕ) (n : ℕ) where
 
 -- ---- After begin
 
-module _ (k : List ℕ) (room : 3256 ≤ length k) (s : Stream) (t : List Cue) (g : Good (writerOf t s)) (ch : Long (s .channels)) where
-  pub whole-back : SideFits (s .left) → SideFits (s .right) → writerIn (putAt k 0 (recordBytes s)) ≡ writerOf (tableIn k 184 (s .count)) s
+module _ (k : List ℕ) (room : loaderSize ≤ length k) (s : Stream) (t : List Cue) (g : Good (writerOf t s)) (ch : Long (s .channels)) where
+  pub whole-back : SideFits (s .left) → SideFits (s .right) → writerIn (putAt k 0 (recordBytes s)) ≡ writerOf (tableIn k cuesAt (s .count)) s
   unfolding recordBytes
   whole-back fl fr =
       let lb = sideBytes (s .left) in
@@ -252,14 +253,14 @@ module _ (k : List ℕ) (room : 3256 ≤ length k) (s : Stream) (t : List Cue) (
       let n = numbers-length s in
       let nl : length lb ≡ 48 = side-length (s .left) (fl .typed .coefficients .sixteen) in
       let nr : length rb ≡ 48 = side-length (s .right) (fr .typed .coefficients .sixteen) in
-      let m : length bs ≡ 184 = length-append (numberBytes s) (lb ++ rb) ∙ omega (arith, length-append lb rb) in
+      let m : length bs ≡ cuesAt = length-append (numberBytes s) (lb ++ rb) ∙ omega (arith, length-append lb rb) in
       let a = put-there k 0 bs (omega arith) in
-      let sides = at-move 88 (omega arith) (at-right (numberBytes s) (lb ++ rb) a) in
-      let left = side-back 88 (s .left) fl (at-left lb rb sides) in
-      let right = side-back 136 (s .right) fr (at-move 136 (omega arith) (at-right lb rb sides)) in
+      let sides = at-move leftAt (omega arith) (at-right (numberBytes s) (lb ++ rb) a) in
+      let left = side-back leftAt (s .left) fl (at-left lb rb sides) in
+      let right = side-back rightAt (s .right) fr (at-move rightAt (omega arith) (at-right lb rb sides)) in
       record-back k (putAt k 0 bs) s t room (putAt-length k 0 bs) g
       (numbers-back (putAt k 0 bs) s t g ch (at-left (numberBytes s) (lb ++ rb) a) left right)
-      (same-after k 0 bs (omega arith) 184 3256 (omega arith) .byte)
+      (same-after k 0 bs (omega arith) cuesAt loaderSize (omega arith) .byte)
 
 -- the record of an accepted begin
 zeros-fit : (n : ℕ) → All (SFits w16) (replicate n (pos 0))
@@ -280,12 +281,12 @@ none-fits =
     }
 
 module _ (k : List ℕ) (slot ch : ℕ) (mode : Looping) (lent : List ℕ) (n : ℕ) where
-  empty-back : 3256 ≤ length k → Long ch → beginRefusal slot ch (length lent) ≡ 0 → writerIn (putAt k 0 (recordBytes (streamOf (emptyOf slot ch mode)))) ≡ emptyOf slot ch mode
+  empty-back : loaderSize ≤ length k → Long ch → beginRefusal slot ch (length lent) ≡ 0 → writerIn (putAt k 0 (recordBytes (streamOf (emptyOf slot ch mode)))) ≡ emptyOf slot ch mode
   unfolding tableIn cuesFrom
   empty-back room f z =
       whole-back k room (streamOf (emptyOf slot ch mode)) (emptyOf slot ch mode .cues) (empty-good slot ch (length lent) mode z) f none-fits none-fits
 
-  pub begin-after : 3256 ≤ length k → Long ch → replyOf (beginOf slot ch mode lent .answer) ≡ Accepted n
+  pub begin-after : loaderSize ≤ length k → Long ch → replyOf (beginOf slot ch mode lent .answer) ≡ Accepted n
       → writerIn (putAt k 0 (recordBytes (streamOf (beginOf slot ch mode lent .writer)))) ≡ beginOf slot ch mode lent .writer
   unfolding beginOf
   begin-after room f e =

@@ -9,10 +9,11 @@ use Rattle.layout.specs.Records.{be32}
 use Rattle.writer.specs.Loading.{Answer, accepted, refused}
 use Rattle.writer.specs.Calls.{Outcome, firstPlace}
 use Rattle.push_plan.specs.PushPlan.{streamOf}
-use Rattle.kept_writer.specs.KeptWriter.{loaderSize, streamIn}
+use Rattle.kept_writer.specs.KeptWriter.{streamIn}
 use Rattle.kept_record.specs.KeptRecord.{recordBytes, pushedBytes}
 use Rattle.kept_table.specs.KeptTable.{tablePut}
 use Rattle.kept_loading.specs.declared.KeptCall.{KeptCall}
+use Rattle.kept_sides.specs.KeptSides.{loaderSize}
 
 -- The refusal's number, 0 where the call is accepted.
 abbrev pub numberOf : Answer → ℕ

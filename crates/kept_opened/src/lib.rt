@@ -3,6 +3,9 @@ use kept_reader::opened::BLOCKS_AT;
 use kept_reader::opened::LOOP_AT;
 use kept_reader::opened::NO_LOOP;
 use kept_reader::opened::OFFSETS_AT;
+use kept_reader::opened::OFFSETS_SIZE;
+use layout::limits::CHANNEL_SIZE;
+use layout::limits::FILE_HEADER_SIZE;
 use puts::put_bytes;
 use puts::put_u32;
 use puts::put_zeros;
@@ -11,16 +14,12 @@ ghost use mathlib.Core.Path.{_≡_};
 ghost use Prim.Native.Nat.{_≤_};
 ghost use lib.ListN.{length, take};
 ghost use Rattle.layout.specs.Lists.{concat};
-ghost use Rattle.layout.specs.Records.{be32};
+ghost use Rattle.layout.specs.Records.{be32, fileHeaderSize};
 ghost use Rattle.layout.specs.Puts.{putAt};
-ghost use Rattle.kept_reader.specs.KeptReader.{loopNumber, fileKept, openedParts};
+ghost use Rattle.kept_reader.specs.KeptReader.{loopNumber, fileKept, openedParts, offsetsAt, openedSize};
+ghost use Rattle.layout.specs.Refusals.{blockLimit};
 
-const FILE_SIZE: usize = 128;
-
-const SECOND_AT: usize = 72;
-
-// The bytes of 512 offsets.
-const OFFSETS_SIZE: usize = 2048;
+const SECOND_AT: usize = FILE_HEADER_SIZE - CHANNEL_SIZE;
 
 fn loop_number(start: LoopStart) -> u32
     ensures { λ n. ⌜ n ≡ loopNumber start ⌝ }
@@ -33,8 +32,8 @@ fn loop_number(start: LoopStart) -> u32
 
 // The first n offsets.
 fn put_offsets(kept: &mut [u8], offsets: &[u32], n: usize)
-    requires { ⌜ (n ≤ 512) × (n ≤ length (now offsets)) × (2184 ≤ length (now kept)) ⌝ }
-    ensures { λ _. ⌜ now (kept .exit) ≡ putAt (now (kept .entry)) 136 (concat be32 (take n (now (offsets .entry)))) ⌝ }
+    requires { ⌜ (n ≤ blockLimit) × (n ≤ length (now offsets)) × (openedSize ≤ length (now kept)) ⌝ }
+    ensures { λ _. ⌜ now (kept .exit) ≡ putAt (now (kept .entry)) offsetsAt (concat be32 (take n (now (offsets .entry)))) ⌝ }
 {
     let mut i: usize = 0;
     while i < n {
@@ -45,15 +44,15 @@ fn put_offsets(kept: &mut [u8], offsets: &[u32], n: usize)
 
 // The file header; the second channel's place has zeros where it is not in use.
 fn put_file(kept: &mut [u8], s: &[u8], count: usize)
-    requires { ⌜ (128 ≤ length (now s)) × (2184 ≤ length (now kept)) ⌝ }
+    requires { ⌜ (fileHeaderSize ≤ length (now s)) × (openedSize ≤ length (now kept)) ⌝ }
     ensures { λ _. ⌜ now (kept .exit) ≡ putAt (now (kept .entry)) 0 (fileKept (now (s .entry)) count) ⌝ }
 {
     if count == 2 {
-        put_bytes(kept, 0, &s[..FILE_SIZE]);
+        put_bytes(kept, 0, &s[..FILE_HEADER_SIZE]);
         return;
     }
     put_bytes(kept, 0, &s[..SECOND_AT]);
-    put_zeros(kept, SECOND_AT, 56);
+    put_zeros(kept, SECOND_AT, CHANNEL_SIZE);
 }
 
 // The record of a slot that was opened, by its parts: the offsets are lent, so that none is copied on the way.
@@ -65,7 +64,7 @@ pub fn put_opened(
     start: LoopStart,
     offsets: &[u32],
 )
-    requires { ⌜ (blocks ≤ 512) × ((blocks ≤ length (now offsets)) × ((128 ≤ length (now s)) × (2184 ≤ length (now kept)))) ⌝ }
+    requires { ⌜ (blocks ≤ blockLimit) × ((blocks ≤ length (now offsets)) × ((fileHeaderSize ≤ length (now s)) × (openedSize ≤ length (now kept)))) ⌝ }
     ensures { λ _. ⌜ now (kept .exit) ≡ putAt (now (kept .entry)) 0 (openedParts (now (s .entry)) count blocks start (now (offsets .entry))) ⌝ }
 {
     put_file(kept, s, count);

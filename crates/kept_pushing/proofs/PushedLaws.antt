@@ -28,7 +28,7 @@ use Rattle.taking.specs.declared.Taken.{Taken}
 use Rattle.push_plan.specs.PushPlan.{streamOf, writerOf, advanced}
 use Rattle.push_plan.specs.declared.Plan.{Plan}
 use Rattle.push_plan.specs.declared.Stream.{Stream}
-use Rattle.kept_sides.specs.KeptSides.{sideIn, tableIn}
+use Rattle.kept_sides.specs.KeptSides.{sideIn, tableIn, cuesAt, leftAt, rightAt, loaderSize}
 use Rattle.kept_sides.proofs.SameLaws.{side-same}
 use Rattle.kept_puts.specs.KeptNumbers.{numberBytes}
 use Rattle.kept_puts.proofs.NumberLaws.{numbers-length}
@@ -43,20 +43,20 @@ use Rattle.kept_loading.proofs.BackLaws.{Long, numbers-back, SideFits, record-b
 
 -- ---- The bytes that are put
 
-module _ (k : List ℕ) (room : 3256 ≤ length k) (s : Stream) (t : List Cue) (g : Good (writerOf t s)) (ch : Long (s .channels)) where
-  numbers-alone : sideIn k 88 ≡ s .left → sideIn k 136 ≡ s .right → writerIn (putAt k 0 (numberBytes s)) ≡ writerOf (tableIn k 184 (s .count)) s
+module _ (k : List ℕ) (room : loaderSize ≤ length k) (s : Stream) (t : List Cue) (g : Good (writerOf t s)) (ch : Long (s .channels)) where
+  numbers-alone : sideIn k leftAt ≡ s .left → sideIn k rightAt ≡ s .right → writerIn (putAt k 0 (numberBytes s)) ≡ writerOf (tableIn k cuesAt (s .count)) s
   numbers-alone l r =
       let bs = numberBytes s in
       let k′ = putAt k 0 bs in
       let n = numbers-length s in
       let long = putAt-length k 0 bs in
-      let b = same-after k 0 bs (omega arith) (0 + length bs) 3256 (omega arith) .byte in
-      let left = side-same k′ k (0 + length bs) 3256 b long 88 (omega arith) (omega arith) ∙ l in
-      let right = side-same k′ k (0 + length bs) 3256 b long 136 (omega arith) (omega arith) ∙ r in
+      let b = same-after k 0 bs (omega arith) (0 + length bs) loaderSize (omega arith) .byte in
+      let left = side-same k′ k (0 + length bs) loaderSize b long leftAt (omega arith) (omega arith) ∙ l in
+      let right = side-same k′ k (0 + length bs) loaderSize b long rightAt (omega arith) (omega arith) ∙ r in
       record-back k k′ s t room long g (numbers-back k′ s t g ch (put-there k 0 bs (omega arith)) left right) (λ i x y. b i (omega arith) y)
 
-  pushed-back : (s .blocks ≡ 1 → SideFits (s .left) × SideFits (s .right)) → ((s .blocks ≡ 1 → ⊥) → (sideIn k 88 ≡ s .left) × (sideIn k 136 ≡ s .right))
-      → writerIn (putAt k 0 (pushedBytes s)) ≡ writerOf (tableIn k 184 (s .count)) s
+  pushed-back : (s .blocks ≡ 1 → SideFits (s .left) × SideFits (s .right)) → ((s .blocks ≡ 1 → ⊥) → (sideIn k leftAt ≡ s .left) × (sideIn k rightAt ≡ s .right))
+      → writerIn (putAt k 0 (pushedBytes s)) ≡ writerOf (tableIn k cuesAt (s .count)) s
   unfolding pushedBytes
   pushed-back first later =
       by-cases (eqb (s .blocks) 1)
@@ -65,7 +65,7 @@ module _ (k : List ℕ) (room : 3256 ≤ length k) (s : Stream) (t : List Cue) (
 
 -- ---- After a push
 
-side-there : (k : List ℕ) → (fieldsIn k .left ≡ sideIn k 88) × (fieldsIn k .right ≡ sideIn k 136)
+side-there : (k : List ℕ) → (fieldsIn k .left ≡ sideIn k leftAt) × (fieldsIn k .right ≡ sideIn k rightAt)
 unfolding fieldsIn
 side-there k = (refl, refl)
 
@@ -74,14 +74,14 @@ module _ (k : List ℕ) (some : streamIn k .slot ≡ 0 → ⊥) {ch : ℕ} {l r 
   abbrev next : Stream
   next = advanced (streamIn k) t end (plan .size) (plan .loopat) l r last
 
-  next-good : Good (writerOf (tableIn k 184 (streamIn k .count)) next)
+  next-good : Good (writerOf (tableIn k cuesAt (streamIn k .count)) next)
   next-good = rw (after-is w z) (push-good (writerIn k) (pushArgs ch l r ld rd last) (length lent) (kept-good k) (sym (due-is w) ∙ z))
 
   first-fits : next .blocks ≡ 1 → SideFits (next .left) × SideFits (next .right)
   unfolding advanced
   first-fits e = rw (eq-eqb (streamIn k .blocks) 0 (omega arith)) (fl, fr)
 
-  later-there : (next .blocks ≡ 1 → ⊥) → (sideIn k 88 ≡ next .left) × (sideIn k 136 ≡ next .right)
+  later-there : (next .blocks ≡ 1 → ⊥) → (sideIn k leftAt ≡ next .left) × (sideIn k rightAt ≡ next .right)
   unfolding advanced
   later-there h =
       let there = holds k some .is in
@@ -99,8 +99,8 @@ module _ (k : List ℕ) (some : streamIn k .slot ≡ 0 → ⊥) {ch : ℕ} {l r 
       let p = pushArgs ch l r ld rd last in
       let is = kept-there in
       rw (eq-eqb (pushRefusal (standingIn (writerIn k)) (takenOf (writerIn k) p) p (length lent)) 0 (sym (due-is w) ∙ z))
-      (pushed-back k (holds k some .room) next (tableIn k 184 (streamIn k .count)) next-good (omega arith) first-fits later-there
-      ∙ ap (λ (n : ℕ). writerOf (tableIn k 184 n) next) (is .1) ∙ after-is w z)
+      (pushed-back k (holds k some .room) next (tableIn k cuesAt (streamIn k .count)) next-good (omega arith) first-fits later-there
+      ∙ ap (λ (n : ℕ). writerOf (tableIn k cuesAt n) next) (is .1) ∙ after-is w z)
 
   pub push-stream : next ≡ streamOf (pushOf (writerIn k) (pushArgs ch l r ld rd last) lent .writer)
   unfolding pushOf

@@ -1,5 +1,4 @@
 // Push on a record in lent bytes.
-use block_writer::push::HEADER_SIZE;
 use block_writer::push::put_data;
 use kept_loading::KeptCall;
 use kept_loading::refused;
@@ -10,6 +9,7 @@ use kept_writer::loader::held_kept;
 use kept_writer::loader::put_taken_kept;
 use kept_writer::loader::stream_in;
 use kept_writer::loader::take_kept;
+use layout::limits::BLOCK_HEADER_SIZE;
 use push_advance::advance;
 use push_plan::block_end;
 use push_plan::plan_push;
@@ -81,7 +81,7 @@ pub fn push_kept(
     put_header(lent, 0, header);
     put_taken_kept(
         lent,
-        HEADER_SIZE,
+        BLOCK_HEADER_SIZE,
         kept,
         s.count,
         s.next,

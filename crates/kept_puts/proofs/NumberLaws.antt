@@ -16,6 +16,7 @@ use Rattle.push_plan.specs.declared.Stream.{Stream}
 use Rattle.kept_reader.specs.KeptReader.{be64, putLong}
 use Rattle.kept_reader.proofs.LongLaws.{be64-length, long-put}
 use Rattle.kept_puts.specs.KeptNumbers.{modeNumber, loopNumber, flagNumber, placesBytes, sumsBytes, marksBytes, numberBytes}
+use Rattle.kept_sides.specs.KeptSides.{leftAt}
 
 -- ---- Four u64
 
@@ -32,7 +33,7 @@ four : (a b c d : ℕ) → be64 a ++ be64 b ++ be64 c ++ be64 d ≡ concat be64 
 unfolding concat
 four a b c d = simp (append-assoc, append-nil)
 
-module _ (k k₁ k₂ k₃ : List ℕ) {k₄ : List ℕ} (a b c d : ℕ) (room : 88 ≤ length k) where
+module _ (k k₁ k₂ k₃ : List ℕ) {k₄ : List ℕ} (a b c d : ℕ) (room : leftAt ≤ length k) where
   pub places-put : k₁ ≡ putLong k 0 a → k₂ ≡ putLong k₁ 8 b → k₃ ≡ putLong k₂ 16 c → k₄ ≡ putLong k₃ 24 d → k₄ ≡ putAt k 0 (placesBytes a b c d)
   unfolding placesBytes
   places-put e₁ e₂ e₃ e₄ =
@@ -55,7 +56,7 @@ five : (a b c d e : ℕ) → be64 a ++ be32 b ++ be32 c ++ be32 d ++ be32 e ≡ 
 unfolding concat
 five a b c d e = simp (append-assoc, append-nil)
 
-pub marks-put : (k k₁ k₂ k₃ k₄ : List ℕ) {k₅ : List ℕ} (a b id d e : ℕ) (l : LoopAt) (m : Looping) (last finished : Bool) → 88 ≤ length k
+pub marks-put : (k k₁ k₂ k₃ k₄ : List ℕ) {k₅ : List ℕ} (a b id d e : ℕ) (l : LoopAt) (m : Looping) (last finished : Bool) → leftAt ≤ length k
     → a ≡ loopNumber l → k₁ ≡ putLong k 64 a → b ≡ modeNumber m → k₂ ≡ putAt k₁ 72 (be32 b) → k₃ ≡ putAt k₂ 76 (be32 id)
     → d ≡ flagNumber last → k₄ ≡ putAt k₃ 80 (be32 d) → e ≡ flagNumber finished → k₅ ≡ putAt k₄ 84 (be32 e)
     → k₅ ≡ putAt k 64 (marksBytes l m id last finished)
@@ -82,11 +83,11 @@ pub marks-length : (l : LoopAt) (m : Looping) (id : ℕ) (last finished : Bool) 
 unfolding marksBytes concat be64 be32
 marks-length l m id last finished = refl
 
-pub numbers-length : (s : Stream) → length (numberBytes s) ≡ 88
+pub numbers-length : (s : Stream) → length (numberBytes s) ≡ leftAt
 unfolding numberBytes
 numbers-length s = simp (length-append, places-length, sums-length, marks-length)
 
-pub numbers-put : (k k₁ k₂ : List ℕ) {k₃ : List ℕ} (s : Stream) → 88 ≤ length k → k₁ ≡ putAt k 0 (placesBytes (s .slot) (s .channels) (s .count) (s .next))
+pub numbers-put : (k k₁ k₂ : List ℕ) {k₃ : List ℕ} (s : Stream) → leftAt ≤ length k → k₁ ≡ putAt k 0 (placesBytes (s .slot) (s .channels) (s .count) (s .next))
     → k₂ ≡ putAt k₁ 32 (sumsBytes (s .base) (s .offset) (s .blocks) (s .sum)) → k₃ ≡ putAt k₂ 64 (marksBytes (s .loopat) (s .mode) (s .id) (s .last) (s .finished))
     → k₃ ≡ putAt k 0 (numberBytes s)
 unfolding numberBytes

@@ -1,5 +1,18 @@
 // The numbers of the writer's record put into lent bytes.
 use kept_reader::fields::put_long;
+use kept_sides::places::BASE_AT;
+use kept_sides::places::BLOCKS_AT;
+use kept_sides::places::CHANNELS_AT;
+use kept_sides::places::COUNT_AT;
+use kept_sides::places::FINISHED_AT;
+use kept_sides::places::ID_AT;
+use kept_sides::places::LAST_AT;
+use kept_sides::places::LOOP_AT;
+use kept_sides::places::MODE_AT;
+use kept_sides::places::NEXT_AT;
+use kept_sides::places::OFFSET_AT;
+use kept_sides::places::SLOT_AT;
+use kept_sides::places::SUM_AT;
 use push_plan::Stream;
 use puts::put_u32;
 use writer::LoopAt;
@@ -10,10 +23,7 @@ ghost use lib.ListN.{length};
 ghost use Rattle.layout.specs.Records.{be32};
 ghost use Rattle.layout.specs.Puts.{putAt};
 ghost use Rattle.kept_puts.specs.KeptNumbers.{modeNumber, loopNumber, flagNumber, placesBytes, sumsBytes, marksBytes, numberBytes};
-
-const COUNT_AT: usize = 16;
-
-const FINISHED_AT: usize = 84;
+ghost use Rattle.kept_sides.specs.KeptSides.{leftAt};
 
 // No block of the stream is the loop block.
 const NOWHERE: u64 = 0xFFFF_FFFF_FFFF_FFFF;
@@ -44,39 +54,39 @@ fn flag(b: bool) -> u32
 }
 
 fn put_places(kept: &mut [u8], slot: usize, channels: usize, count: usize, next: usize)
-    requires { ⌜ 88 ≤ length (now kept) ⌝ }
+    requires { ⌜ leftAt ≤ length (now kept) ⌝ }
     ensures { λ _. ⌜ now (kept .exit) ≡ putAt (now (kept .entry)) 0 (placesBytes slot channels count next) ⌝ }
 {
-    put_long(kept, 0, slot as u64);
-    put_long(kept, 8, channels as u64);
+    put_long(kept, SLOT_AT, slot as u64);
+    put_long(kept, CHANNELS_AT, channels as u64);
     put_long(kept, COUNT_AT, count as u64);
-    put_long(kept, 24, next as u64);
+    put_long(kept, NEXT_AT, next as u64);
 }
 
 fn put_sums(kept: &mut [u8], base: u64, offset: usize, blocks: usize, sum: u64)
-    requires { ⌜ 88 ≤ length (now kept) ⌝ }
+    requires { ⌜ leftAt ≤ length (now kept) ⌝ }
     ensures { λ _. ⌜ now (kept .exit) ≡ putAt (now (kept .entry)) 32 (sumsBytes base offset blocks sum) ⌝ }
 {
-    put_long(kept, 32, base);
-    put_long(kept, 40, offset as u64);
-    put_long(kept, 48, blocks as u64);
-    put_long(kept, 56, sum);
+    put_long(kept, BASE_AT, base);
+    put_long(kept, OFFSET_AT, offset as u64);
+    put_long(kept, BLOCKS_AT, blocks as u64);
+    put_long(kept, SUM_AT, sum);
 }
 
 fn put_marks(kept: &mut [u8], loopat: LoopAt, mode: Looping, id: u32, last: bool, finished: bool)
-    requires { ⌜ 88 ≤ length (now kept) ⌝ }
+    requires { ⌜ leftAt ≤ length (now kept) ⌝ }
     ensures { λ _. ⌜ now (kept .exit) ≡ putAt (now (kept .entry)) 64 (marksBytes loopat mode id last finished) ⌝ }
 {
-    put_long(kept, 64, loop_number(loopat));
-    put_u32(kept, 72, mode_number(mode));
-    put_u32(kept, 76, id);
-    put_u32(kept, 80, flag(last));
+    put_long(kept, LOOP_AT, loop_number(loopat));
+    put_u32(kept, MODE_AT, mode_number(mode));
+    put_u32(kept, ID_AT, id);
+    put_u32(kept, LAST_AT, flag(last));
     put_u32(kept, FINISHED_AT, flag(finished));
 }
 
-// The numbers of the record: its first 88 bytes.
+// The numbers of the record: its bytes before the sides.
 pub fn put_numbers(kept: &mut [u8], s: Stream)
-    requires { ⌜ 88 ≤ length (now kept) ⌝ }
+    requires { ⌜ leftAt ≤ length (now kept) ⌝ }
     ensures { λ _. ⌜ now (kept .exit) ≡ putAt (now (kept .entry)) 0 (numberBytes s) ⌝ }
 {
     let mode = s.mode;

@@ -11,7 +11,7 @@ use lib.Seq.{getD-set-same, getD-set-other, ext-getD}
 use lib.Dec.{ltb, leb, eqb}
 use borrow.Author.Tests.{eq-eqb, ne-eqb, eqb-true, eqb-false, lt-ltb, le-ltb, le-leb, lt-leb, leb-true, leb-false, ltb-true, ltb-false}
 use Rattle.layout.specs.Choice.{pick, _and_}
-use Rattle.layout.specs.Records.{u32At, field, Read, on, readChannel}
+use Rattle.layout.specs.Records.{u32At, field, Read, on, readChannel, fileHeaderSize}
 use Rattle.layout.specs.Answers.{u32Says}
 use Rattle.layout.specs.declared.fields.U32Read.{U32Read}
 use Rattle.layout.specs.declared.Channel.{Channel}
@@ -21,7 +21,8 @@ use Rattle.reader.specs.OpeningAndReading.{Readable}
 use Rattle.reader.specs.ReaderAnswers.{noReader}
 use Rattle.reader.specs.declared.HpsReader.{HpsReader}
 use Rattle.reader.specs.declared.LoopStart.{LoopStart}
-use Rattle.kept_reader.specs.KeptReader.{wordAt, loopNumber, loopOf, lesser, offsetsIn, partIn}
+use Rattle.kept_reader.specs.KeptReader.{wordAt, loopNumber, loopOf, lesser, offsetsIn, partIn, openedSize, offsetsAt}
+use Rattle.layout.specs.Refusals.{blockLimit}
 
 -- ---- Words
 
@@ -60,7 +61,7 @@ module _ (kept : List ℕ) (from to : ℕ) where
   offsets-long zero i = refl
   offsets-long (suc n) i = ap suc (offsets-long n (i + 1))
 
-  pub offset-at : (n i k : ℕ) → k < n → getD (offsetsIn kept from to n i) k 0 ≡ pick (leb from (i + k) and ltb (i + k) to) (u32At kept (136 + 4 * (i + k))) 0
+  pub offset-at : (n i k : ℕ) → k < n → getD (offsetsIn kept from to n i) k 0 ≡ pick (leb from (i + k) and ltb (i + k) to) (u32At kept (offsetsAt + 4 * (i + k))) 0
   unfolding offsetsIn
   offset-at zero i k h = absurd (omega arith)
   offset-at (suc n) i zero h = let e : i + zero ≡ i = omega arith in rw e
@@ -68,15 +69,15 @@ module _ (kept : List ℕ) (from to : ℕ) where
       let e : i + 1 + k ≡ i + suc k = omega arith in
       rw (← e) (offset-at n (i + 1) k (le-of-suc-le-suc h))
 
-  pub first-offset : (n k : ℕ) → k < n → getD (offsetsIn kept from to n 0) k 0 ≡ pick (leb from k and ltb k to) (u32At kept (136 + 4 * k)) 0
+  pub first-offset : (n k : ℕ) → k < n → getD (offsetsIn kept from to n 0) k 0 ≡ pick (leb from k and ltb k to) (u32At kept (offsetsAt + 4 * k)) 0
   first-offset n k h = let e : 0 + k ≡ k = omega arith in rw e at (offset-at n 0 k h)
 
 -- of 512 offsets those from one block to the one before i are read
 pub record OffsetsRead (kept : List ℕ) (from to : ℕ) (os : List ℕ) (i : ℕ) : Type 0 where
-  pub long : length os ≡ 512
+  pub long : length os ≡ blockLimit
   pub low : from ≤ i
   pub high : (i ≡ from) ⊎ (i ≤ to)
-  pub each : (k : ℕ) → k < 512 → getD os k 0 ≡ pick (leb from k and ltb k i) (u32At kept (136 + 4 * k)) 0
+  pub each : (k : ℕ) → k < blockLimit → getD os k 0 ≡ pick (leb from k and ltb k i) (u32At kept (offsetsAt + 4 * k)) 0
 
 zeros-at : (n k : ℕ) → _≡_ {A = ℕ} (getD (replicate n 0) k 0) 0
 zeros-at zero k = refl
@@ -84,21 +85,21 @@ zeros-at (suc n) zero = refl
 zeros-at (suc n) (suc k) = zeros-at n k
 
 module _ {kept : List ℕ} {from to : ℕ} where
-  pub offsets-unread : OffsetsRead kept from to (replicate 512 0) from
+  pub offsets-unread : OffsetsRead kept from to (replicate blockLimit 0) from
   offsets-unread =
       record {
         long = refl;
         low = omega arith;
         high = inl refl;
-        each = λ k h. zeros-at 512 k ∙ by-cases (leb from k) (λ t. rw (t, le-ltb k from (leb-true from k t))) (λ t. rw t);
+        each = λ k h. zeros-at blockLimit k ∙ by-cases (leb from k) (λ t. rw (t, le-ltb k from (leb-true from k t))) (λ t. rw t);
       }
 
   module _ {os : List ℕ} {i : ℕ} (p : OffsetsRead kept from to os i) where
-    pub offsets-next : {x : ℕ} → i < to → to ≤ 512 → 2184 ≤ length kept → x ≡ wordAt kept (136 + 4 * i) → OffsetsRead kept from to (set os i x) (i + 1)
+    pub offsets-next : {x : ℕ} → i < to → to ≤ blockLimit → openedSize ≤ length kept → x ≡ wordAt kept (offsetsAt + 4 * i) → OffsetsRead kept from to (set os i x) (i + 1)
     offsets-next {x} h m g e =
         let l = p .long in
         let w = p .low in
-        let is : x ≡ u32At kept (136 + 4 * i) = e ∙ word-in kept (136 + 4 * i) (omega arith) in
+        let is : x ≡ u32At kept (offsetsAt + 4 * i) = e ∙ word-in kept (offsetsAt + 4 * i) (omega arith) in
         record {
           long = length-set os i x ∙ l;
           low = omega arith;
@@ -119,15 +120,15 @@ module _ {kept : List ℕ} {from to : ℕ} where
         past : (k : ℕ) → i ≤ k → (k ≡ i → ⊥) → i + 1 ≤ k
         past k v q = omega arith
 
-    pub offsets-read : to ≤ i → os ≡ offsetsIn kept from to 512 0
+    pub offsets-read : to ≤ i → os ≡ offsetsIn kept from to blockLimit 0
     offsets-read h =
-        ext-getD 0 os (offsetsIn kept from to 512 0) (p .long ∙ sym (offsets-long kept from to 512 0))
+        ext-getD 0 os (offsetsIn kept from to blockLimit 0) (p .long ∙ sym (offsets-long kept from to blockLimit 0))
         (λ k b.
         let l = p .long in
-        let m : k < 512 = omega arith in
-        p .each k m ∙ same k ∙ sym (first-offset kept from to 512 k m))
+        let m : k < blockLimit = omega arith in
+        p .each k m ∙ same k ∙ sym (first-offset kept from to blockLimit k m))
       where
-        same : (k : ℕ) → pick (leb from k and ltb k i) (u32At kept (136 + 4 * k)) 0 ≡ pick (leb from k and ltb k to) (u32At kept (136 + 4 * k)) 0
+        same : (k : ℕ) → pick (leb from k and ltb k i) (u32At kept (offsetsAt + 4 * k)) 0 ≡ pick (leb from k and ltb k to) (u32At kept (offsetsAt + 4 * k)) 0
         same k =
             by-cases (leb from k)
             (λ t.
@@ -150,38 +151,38 @@ module _ (kept : List ℕ) (from to : ℕ) where
   atChannels a b =
       on a (λ n. noReader) (λ l.
       on b (λ n. noReader) (λ r.
-      record { rate = u32At kept 8; count = u32At kept 12; channels = l ∷ r ∷ []; blocks = u32At kept 128; offsets = offsetsIn kept from (lesser to (u32At kept 128)) 512 0; «loop_start» = loopOf (u32At kept 132) }))
+      record { rate = u32At kept 8; count = u32At kept 12; channels = l ∷ r ∷ []; blocks = u32At kept fileHeaderSize; offsets = offsetsIn kept from (lesser to (u32At kept fileHeaderSize)) blockLimit 0; «loop_start» = loopOf (u32At kept 132) }))
 
-  pub too-few : length kept < 2184 → noReader ≡ partIn kept from to
+  pub too-few : length kept < openedSize → noReader ≡ partIn kept from to
   unfolding partIn
-  too-few h = rw (lt-ltb (length kept) 2184 h)
+  too-few h = rw (lt-ltb (length kept) openedSize h)
 
-  module _ (h : 2184 ≤ length kept) {count : ℕ} (c : count ≡ wordAt kept 12) where
+  module _ (h : openedSize ≤ length kept) {count : ℕ} (c : count ≡ wordAt kept 12) where
     count-is : count ≡ u32At kept 12
     count-is = c ∙ word-in kept 12 (omega arith)
 
     pub many-channels : 2 < count → noReader ≡ partIn kept from to
     unfolding partIn
-    many-channels g = let k = rw count-is at g in rw (le-ltb (length kept) 2184 h, lt-ltb 2 (u32At kept 12) k)
+    many-channels g = let k = rw count-is at g in rw (le-ltb (length kept) openedSize h, lt-ltb 2 (u32At kept 12) k)
 
-    module _ (few : count ≤ 2) {blocks : ℕ} (n : blocks ≡ wordAt kept 128) where
-      blocks-are : blocks ≡ u32At kept 128
-      blocks-are = n ∙ word-in kept 128 (omega arith)
+    module _ (few : count ≤ 2) {blocks : ℕ} (n : blocks ≡ wordAt kept fileHeaderSize) where
+      blocks-are : blocks ≡ u32At kept fileHeaderSize
+      blocks-are = n ∙ word-in kept fileHeaderSize (omega arith)
 
-      pub many-blocks : 512 < blocks → noReader ≡ partIn kept from to
+      pub many-blocks : blockLimit < blocks → noReader ≡ partIn kept from to
       unfolding partIn
       many-blocks g =
           let k = rw blocks-are at g in
           let l = rw count-is at few in
-          rw (le-ltb (length kept) 2184 h, le-ltb 2 (u32At kept 12) l, lt-ltb 512 (u32At kept 128) k)
+          rw (le-ltb (length kept) openedSize h, le-ltb 2 (u32At kept 12) l, lt-ltb blockLimit (u32At kept fileHeaderSize) k)
 
-      module _ (b : blocks ≤ 512) where
+      module _ (b : blocks ≤ blockLimit) where
         within : partIn kept from to ≡ atChannels (readChannel kept 16) (readChannel kept 72)
         unfolding partIn
         within =
             let k = rw blocks-are at b in
             let l = rw count-is at few in
-            rw (le-ltb (length kept) 2184 h, le-ltb 2 (u32At kept 12) l, le-ltb 512 (u32At kept 128) k)
+            rw (le-ltb (length kept) openedSize h, le-ltb 2 (u32At kept 12) l, le-ltb blockLimit (u32At kept fileHeaderSize) k)
 
         pub no-left : {m : ℕ} → readChannel kept 16 ≡ Read.refused m → noReader ≡ partIn kept from to
         no-left e = sym (within ∙ rw e)
@@ -191,10 +192,10 @@ module _ (kept : List ℕ) (from to : ℕ) where
 
         pub part-made : {left right : Channel} {q : HpsReader} {last number : ℕ} → readChannel kept 16 ≡ Read.value left → readChannel kept 72 ≡ Read.value right
             → q .rate ≡ wordAt kept 8 → q .count ≡ count → q .channels ≡ left ∷ right ∷ [] → q .blocks ≡ blocks → last ≡ lesser to blocks
-            → q .offsets ≡ offsetsIn kept from last 512 0 → number ≡ wordAt kept 132 → q .«loop_start» ≡ loopOf number → q ≡ partIn kept from to
+            → q .offsets ≡ offsetsIn kept from last blockLimit 0 → number ≡ wordAt kept 132 → q .«loop_start» ≡ loopOf number → q ≡ partIn kept from to
         part-made {left} {right} {q} e f e1 e2 e3 e4 m e5 l e6 =
             let w1 = e1 ∙ word-in kept 8 (omega arith) in
-            let w5 = e5 ∙ ap (λ (k : ℕ). offsetsIn kept from k 512 0) (m ∙ ap (lesser to) blocks-are) in
+            let w5 = e5 ∙ ap (λ (k : ℕ). offsetsIn kept from k blockLimit 0) (m ∙ ap (lesser to) blocks-are) in
             let w6 = e6 ∙ ap loopOf (l ∙ word-in kept 132 (omega arith)) in
             same-record q w1 (e2 ∙ count-is) e3 (e4 ∙ blocks-are) w5 w6 ∙ sym (within ∙ rw (e, f))
 
@@ -202,25 +203,25 @@ module _ (kept : List ℕ) (from to : ℕ) where
 pub record Shape (r : HpsReader) : Type 0 where
   pub readable : Readable r
   pub channels : length (r .channels) ≡ 2
-  pub offsets : length (r .offsets) ≡ 512
+  pub offsets : length (r .offsets) ≡ blockLimit
 
 no-shape : Shape noReader
 no-shape = record { readable = record { channels = omega arith; blocks = omega arith }; channels = refl; offsets = refl }
 
 module _ (kept : List ℕ) (from to : ℕ) where
-  channels-shape : (a b : Read Channel) → u32At kept 12 ≤ 2 → u32At kept 128 ≤ 512 → Shape (atChannels kept from to a b)
+  channels-shape : (a b : Read Channel) → u32At kept 12 ≤ 2 → u32At kept fileHeaderSize ≤ blockLimit → Shape (atChannels kept from to a b)
   channels-shape (Read.refused n) b h g = no-shape
   channels-shape (Read.value l) (Read.refused n) h g = no-shape
   channels-shape (Read.value l) (Read.value r) h g =
-      record { readable = record { channels = h; blocks = g }; channels = refl; offsets = offsets-long kept from (lesser to (u32At kept 128)) 512 0 }
+      record { readable = record { channels = h; blocks = g }; channels = refl; offsets = offsets-long kept from (lesser to (u32At kept fileHeaderSize)) blockLimit 0 }
 
   pub part-shape : Shape (partIn kept from to)
   unfolding partIn
   part-shape =
-      by-cases (ltb (length kept) 2184) (λ t. rw t no-shape) (λ t.
+      by-cases (ltb (length kept) openedSize) (λ t. rw t no-shape) (λ t.
       by-cases (ltb 2 (u32At kept 12)) (λ u. rw (t, u) no-shape) (λ u.
-      by-cases (ltb 512 (u32At kept 128)) (λ v. rw (t, u, v) no-shape) (λ v.
-      rw (t, u, v) (channels-shape (readChannel kept 16) (readChannel kept 72) (ltb-false 2 (u32At kept 12) u) (ltb-false 512 (u32At kept 128) v)))))
+      by-cases (ltb blockLimit (u32At kept fileHeaderSize)) (λ v. rw (t, u, v) no-shape) (λ v.
+      rw (t, u, v) (channels-shape (readChannel kept 16) (readChannel kept 72) (ltb-false 2 (u32At kept 12) u) (ltb-false blockLimit (u32At kept fileHeaderSize) v)))))
 
 pub and-readable : (kept : List ℕ) (from to : ℕ) (q : HpsReader) → q ≡ partIn kept from to → (q ≡ partIn kept from to) × Readable q
 and-readable kept from to q e = (e, rw e (part-shape kept from to .readable))

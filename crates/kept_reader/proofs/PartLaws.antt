@@ -7,32 +7,33 @@ use lib.ListN.{length, take, drop, getD, length-take, length-drop}
 use lib.Seq.{getD-take, getD-drop, ext-getD}
 use lib.Dec.{ltb, leb}
 use borrow.Author.Tests.{le-leb, lt-ltb, le-ltb, leb-true, leb-false, ltb-true, ltb-false}
-use Rattle.layout.specs.Records.{u32At, Read, readChannel}
+use Rattle.layout.specs.Records.{u32At, Read, readChannel, fileHeaderSize}
 use Rattle.layout.specs.declared.Channel.{Channel}
 use Rattle.layout.proofs.Cases.{by-cases}
 use Rattle.reader.specs.OpeningAndReading.{offsetIn, offsetsFrom, blockRead, dataRemaining}
 use Rattle.reader.specs.ReaderAnswers.{noReader}
 use Rattle.reader.specs.declared.HpsReader.{HpsReader}
-use Rattle.kept_reader.specs.KeptReader.{loopOf, lesser, offsetsIn, partIn, readerIn}
+use Rattle.kept_reader.specs.KeptReader.{loopOf, lesser, offsetsIn, partIn, readerIn, openedSize, offsetsAt}
 use Rattle.kept_reader.proofs.KeptReads.{offsets-long, first-offset}
+use Rattle.layout.specs.Refusals.{blockLimit}
 
 -- a record of bytes that hold one
 abbrev made : List ℕ → Channel → Channel → (from to : ℕ) → HpsReader
 made kept l r from to =
-    record { rate = u32At kept 8; count = u32At kept 12; channels = l ∷ r ∷ []; blocks = u32At kept 128; offsets = offsetsIn kept from (lesser to (u32At kept 128)) 512 0; «loop_start» = loopOf (u32At kept 132) }
+    record { rate = u32At kept 8; count = u32At kept 12; channels = l ∷ r ∷ []; blocks = u32At kept fileHeaderSize; offsets = offsetsIn kept from (lesser to (u32At kept fileHeaderSize)) blockLimit 0; «loop_start» = loopOf (u32At kept 132) }
 
 -- bytes hold no record or one, whichever part of it is asked for
 part-cases : {A : Type 0} (kept : List ℕ) → (((from to : ℕ) → partIn kept from to ≡ noReader) → A)
-    → ((l r : Channel) → u32At kept 128 ≤ 512 → ((from to : ℕ) → partIn kept from to ≡ made kept l r from to) → A) → A
+    → ((l r : Channel) → u32At kept fileHeaderSize ≤ blockLimit → ((from to : ℕ) → partIn kept from to ≡ made kept l r from to) → A) → A
 unfolding partIn
 part-cases {A} kept f g =
-    by-cases (ltb (length kept) 2184) (λ t. f (λ from to. rw t)) (λ t.
+    by-cases (ltb (length kept) openedSize) (λ t. f (λ from to. rw t)) (λ t.
     by-cases (ltb 2 (u32At kept 12)) (λ u. f (λ from to. rw (t, u))) (λ u.
-    by-cases (ltb 512 (u32At kept 128)) (λ v. f (λ from to. rw (t, u, v))) (λ v.
+    by-cases (ltb blockLimit (u32At kept fileHeaderSize)) (λ v. f (λ from to. rw (t, u, v))) (λ v.
     channels (readChannel kept 16) (readChannel kept 72)
     (λ m e. f (λ from to. rw (t, u, v, e)))
     (λ l m e q. f (λ from to. rw (t, u, v, e, q)))
-    (λ l r e q. g l r (ltb-false 512 (u32At kept 128) v) (λ from to. rw (t, u, v, e, q))))))
+    (λ l r e q. g l r (ltb-false blockLimit (u32At kept fileHeaderSize) v) (λ from to. rw (t, u, v, e, q))))))
   where
     channels : (a b : Read Channel) → ((m : ℕ) → a ≡ Read.refused m → A) → ((l : Channel) (m : ℕ) → a ≡ Read.value l → b ≡ Read.refused m → A)
         → ((l r : Channel) → a ≡ Read.value l → b ≡ Read.value r → A) → A
@@ -46,36 +47,36 @@ record Part (r q : HpsReader) (from to : ℕ) : Type 0 where
   count : r .count ≡ q .count
   channels : r .channels ≡ q .channels
   blocks : r .blocks ≡ q .blocks
-  few : q .blocks ≤ 512
+  few : q .blocks ≤ blockLimit
   long : length (r .offsets) ≡ length (q .offsets)
   offset : (i : ℕ) → from ≤ i → i < to → i < q .blocks → offsetIn r i ≡ offsetIn q i
 
 in-lesser : (i a b : ℕ) → i < a → i < b → i < lesser a b
 in-lesser i a b h g = by-cases (ltb a b) (λ t. rw t h) (λ t. rw t g)
 
-offset-is : (kept : List ℕ) (from to n i : ℕ) → n ≤ 512 → from ≤ i → i < to → i < n → getD (offsetsIn kept from (lesser to n) 512 0) i 0 ≡ u32At kept (136 + 4 * i)
+offset-is : (kept : List ℕ) (from to n i : ℕ) → n ≤ blockLimit → from ≤ i → i < to → i < n → getD (offsetsIn kept from (lesser to n) blockLimit 0) i 0 ≡ u32At kept (offsetsAt + 4 * i)
 offset-is kept from to n i m f h g =
-    first-offset kept from (lesser to n) 512 i (omega arith) ∙ rw (le-leb from i f, lt-ltb i (lesser to n) (in-lesser i to n h g))
+    first-offset kept from (lesser to n) blockLimit i (omega arith) ∙ rw (le-leb from i f, lt-ltb i (lesser to n) (in-lesser i to n h g))
 
 part-of : (kept : List ℕ) (from to : ℕ) → Part (partIn kept from to) (readerIn kept) from to
 part-of kept from to =
     part-cases kept
-    (λ e. rw (e from to, e 0 512) (record { rate = refl; count = refl; channels = refl; blocks = refl; few = omega arith; long = refl; offset = λ i a b c. refl }))
+    (λ e. rw (e from to, e 0 blockLimit) (record { rate = refl; count = refl; channels = refl; blocks = refl; few = omega arith; long = refl; offset = λ i a b c. refl }))
     (λ l r m e.
-    rw (e from to, e 0 512)
+    rw (e from to, e 0 blockLimit)
     (record {
       rate = refl;
       count = refl;
       channels = refl;
       blocks = refl;
       few = m;
-      long = offsets-long kept from (lesser to (u32At kept 128)) 512 0 ∙ sym (offsets-long kept 0 (lesser 512 (u32At kept 128)) 512 0);
-      offset = λ i a b c. offset-is kept from to (u32At kept 128) i m a b c ∙ sym (offset-is kept 0 512 (u32At kept 128) i m (omega arith) (omega arith) c);
+      long = offsets-long kept from (lesser to (u32At kept fileHeaderSize)) blockLimit 0 ∙ sym (offsets-long kept 0 (lesser blockLimit (u32At kept fileHeaderSize)) blockLimit 0);
+      offset = λ i a b c. offset-is kept from to (u32At kept fileHeaderSize) i m a b c ∙ sym (offset-is kept 0 blockLimit (u32At kept fileHeaderSize) i m (omega arith) (omega arith) c);
     }))
 
 -- ---- Block read: the offset of its block
 
-block-by : (s : List ℕ) (r q : HpsReader) (ch i to : ℕ) → (i < 512 → i < to) → Part r q i to → blockRead s r ch i ≡ blockRead s q ch i
+block-by : (s : List ℕ) (r q : HpsReader) (ch i to : ℕ) → (i < blockLimit → i < to) → Part r q i to → blockRead s r ch i ≡ blockRead s q ch i
 unfolding blockRead
 block-by s r q ch i to h p =
     by-cases (leb (q .blocks) i)
@@ -86,12 +87,12 @@ block-by s r q ch i to h p =
     let e : offsetIn r i ≡ offsetIn q i = p .offset i (omega arith) (h (omega arith)) g in
     rw (p .count, p .blocks, p .rate, p .channels, e))
 
-pub block-same : (s kept : List ℕ) (ch i to : ℕ) → (i < 512 → i < to) → blockRead s (partIn kept i to) ch i ≡ blockRead s (readerIn kept) ch i
+pub block-same : (s kept : List ℕ) (ch i to : ℕ) → (i < blockLimit → i < to) → blockRead s (partIn kept i to) ch i ≡ blockRead s (readerIn kept) ch i
 block-same s kept ch i to h = block-by s (partIn kept i to) (readerIn kept) ch i to h (part-of kept i to)
 
 -- ---- Addresses remaining: the offsets from a block on
 
-remaining-by : (r q : HpsReader) (i : ℕ) → Part r q i 512 → offsetsFrom r i ≡ offsetsFrom q i
+remaining-by : (r q : HpsReader) (i : ℕ) → Part r q i blockLimit → offsetsFrom r i ≡ offsetsFrom q i
 remaining-by r q i p =
     let n : length (offsetsFrom r i) ≡ length (offsetsFrom q i) = simp (length-drop, length-take, p .blocks, p .long) in
     ext-getD 0 (offsetsFrom r i) (offsetsFrom q i) n
@@ -105,9 +106,9 @@ remaining-by r q i p =
     within : (r : HpsReader) (k : ℕ) → k < length (offsetsFrom r i) → i + k < r .blocks
     within r k h = let g = simp (length-drop, length-take) at h in omega arith
 
-pub remaining-same : (s kept : List ℕ) (i : ℕ) → dataRemaining s (partIn kept i 512) i ≡ dataRemaining s (readerIn kept) i
+pub remaining-same : (s kept : List ℕ) (i : ℕ) → dataRemaining s (partIn kept i blockLimit) i ≡ dataRemaining s (readerIn kept) i
 unfolding dataRemaining
-remaining-same s kept i = rw (remaining-by (partIn kept i 512) (readerIn kept) i (part-of kept i 512))
+remaining-same s kept i = rw (remaining-by (partIn kept i blockLimit) (readerIn kept) i (part-of kept i blockLimit))
 
 pub same-count : (kept : List ℕ) (from to : ℕ) → partIn kept from to .count ≡ readerIn kept .count
 same-count kept from to = part-of kept from to .count

@@ -14,7 +14,7 @@ use Rattle.layout.specs.Choice.{pick, _and_}
 use Rattle.layout.specs.Lists.{All, concat}
 use Rattle.layout.specs.Puts.{putAt}
 use Rattle.layout.specs.Types.{Bytes}
-use Rattle.layout.specs.Records.{u16At, u32At, i16s, be16, be32, beZ16, contextAt, contextBytes, Read, field, formatOf, on, channelAt, channelBytes, readChannel, noChannel, headerAt, readHeader}
+use Rattle.layout.specs.Records.{u16At, u32At, i16s, be16, be32, beZ16, contextAt, contextBytes, Read, field, formatOf, on, channelAt, channelBytes, readChannel, noChannel, headerAt, readHeader, fileHeaderSize, firstBlockOffset}
 use Rattle.layout.specs.declared.Channel.{Channel}
 use Rattle.layout.specs.declared.DspFormat.{DspFormat}
 use Rattle.layout.specs.declared.BlockHeader.{BlockHeader}
@@ -30,8 +30,9 @@ use Rattle.reader.specs.declared.HpsReader.{HpsReader}
 use Rattle.reader.specs.declared.LoopStart.{LoopStart}
 use Rattle.reader.proofs.HeaderLaws.{header-cases, header-is}
 use Rattle.reader.proofs.OpenedLaws.{Parts, opened-parts, one-or-two, not-walked, and-readable}
-use Rattle.kept_reader.specs.KeptReader.{wordAt, loopNumber, loopOf, fileKept, offsetsKept, openedParts, openedBytes, offsetsIn, readerIn, ReadBack}
+use Rattle.kept_reader.specs.KeptReader.{wordAt, loopNumber, loopOf, fileKept, offsetsKept, openedParts, openedBytes, offsetsIn, readerIn, ReadBack, openedSize, offsetsAt}
 use Rattle.kept_reader.proofs.KeptReads.{word-in, first-offset, offsets-long, second-lesser, part-made}
+use Rattle.layout.specs.Refusals.{blockLimit}
 
 -- ---- Lengths
 
@@ -40,11 +41,11 @@ unfolding concat
 offsets-length [] = refl
 offsets-length (o ∷ os) = length-append (be32 o) (concat be32 os) ∙ omega (arith, be32-length o, offsets-length os)
 
-pub file-length : (s : List ℕ) (count : ℕ) → 128 ≤ length s → length (fileKept s count) ≡ 128
+pub file-length : (s : List ℕ) (count : ℕ) → fileHeaderSize ≤ length s → length (fileKept s count) ≡ fileHeaderSize
 unfolding fileKept
 file-length s count h =
     by-cases (eqb count 2)
-    (λ t. rw t (length-take-le 128 s h))
+    (λ t. rw t (length-take-le fileHeaderSize s h))
     (λ t. rw t (length-append (take 72 s) (replicate 56 0) ∙ omega (arith, length-take-le 72 s (omega arith), length-replicate {A = ℕ} 56 0)))
 
 -- ---- The same bytes read the same
@@ -158,26 +159,26 @@ zeros-after os n j h =
     let e : length os + (j - length os) ≡ j = omega arith in
     ap (λ (i : ℕ). getD (os ++ replicate n 0) i 0) (sym e) ∙ getD-append-add os (replicate n 0) (j - length os) 0 ∙ zeros-at n (j - length os)
 
-table-back : (k os : List ℕ) → All Small os → length os ≤ 512 → At k 136 (concat be32 os) → os ++ replicate (512 - length os) 0 ≡ offsetsIn k 0 (length os) 512 0
+table-back : (k os : List ℕ) → All Small os → length os ≤ blockLimit → At k offsetsAt (concat be32 os) → os ++ replicate (blockLimit - length os) 0 ≡ offsetsIn k 0 (length os) blockLimit 0
 table-back k os f h a =
-    let n : length (os ++ replicate (512 - length os) 0) ≡ 512 = length-append os _ ∙ omega (arith, length-replicate {A = ℕ} (512 - length os) 0) in
-    ext-getD 0 (os ++ replicate (512 - length os) 0) (offsetsIn k 0 (length os) 512 0) (n ∙ sym (offsets-long k 0 (length os) 512 0))
+    let n : length (os ++ replicate (blockLimit - length os) 0) ≡ blockLimit = length-append os _ ∙ omega (arith, length-replicate {A = ℕ} (blockLimit - length os) 0) in
+    ext-getD 0 (os ++ replicate (blockLimit - length os) 0) (offsetsIn k 0 (length os) blockLimit 0) (n ∙ sym (offsets-long k 0 (length os) blockLimit 0))
     (λ j b.
-    let j-small : j < 512 = omega arith in
+    let j-small : j < blockLimit = omega arith in
     by-cases (ltb j (length os))
     (λ t.
     let l = ltb-true j (length os) t in
-    List·getD-append os (replicate (512 - length os) 0) 0 j l ∙ sym (first-offset k 0 (length os) 512 j j-small ∙ rw (le-leb 0 j (omega arith), t) (offset-back 136 os f a j l)))
-    (λ t. zeros-after os (512 - length os) j (ltb-false j (length os) t) ∙ sym (first-offset k 0 (length os) 512 j j-small ∙ rw (le-leb 0 j (omega arith), t))))
+    List·getD-append os (replicate (blockLimit - length os) 0) 0 j l ∙ sym (first-offset k 0 (length os) blockLimit j j-small ∙ rw (le-leb 0 j (omega arith), t) (offset-back offsetsAt os f a j l)))
+    (λ t. zeros-after os (blockLimit - length os) j (ltb-false j (length os) t) ∙ sym (first-offset k 0 (length os) blockLimit j j-small ∙ rw (le-leb 0 j (omega arith), t))))
 
-loop-back : (l : LoopStart) → ((i : ℕ) → l ≡ LoopStart.Block i → i < 512) → (loopNumber l < 4294967296) × (l ≡ loopOf (loopNumber l))
+loop-back : (l : LoopStart) → ((i : ℕ) → l ≡ LoopStart.Block i → i < blockLimit) → (loopNumber l < 4294967296) × (l ≡ loopOf (loopNumber l))
 loop-back LoopStart.None h = (omega arith, refl)
 loop-back (LoopStart.Block i) h =
     let s = h i refl in
     let e : i % 4294967296 ≡ i = omega arith in
     rw e (omega arith, rw (ne-eqb i 4294967295 (apart i s)))
   where
-    apart : (i : ℕ) → i < 512 → i ≡ 4294967295 → ⊥
+    apart : (i : ℕ) → i < blockLimit → i ≡ 4294967295 → ⊥
     apart i s z = omega arith
 
 none-bytes : channelBytes noChannel ≡ replicate 56 0
@@ -187,9 +188,9 @@ none-bytes = refl
 -- ---- The record
 
 -- the file header that is kept, and the record's parts after it
-module _ (s kept : List ℕ) (count : ℕ) (os : List ℕ) (start : LoopStart) (h : 128 ≤ length s) (bs : List ℕ)
-    (is : bs ≡ ((fileKept s count ++ be32 (length os)) ++ be32 (loopNumber start)) ++ (concat be32 os ++ replicate (4 * (512 - length os)) 0)) (room : 2184 ≤ length kept) (few : length os ≤ 512) where
-  long : length bs ≡ 2184
+module _ (s kept : List ℕ) (count : ℕ) (os : List ℕ) (start : LoopStart) (h : fileHeaderSize ≤ length s) (bs : List ℕ)
+    (is : bs ≡ ((fileKept s count ++ be32 (length os)) ++ be32 (loopNumber start)) ++ (concat be32 os ++ replicate (4 * (blockLimit - length os)) 0)) (room : openedSize ≤ length kept) (few : length os ≤ blockLimit) where
+  long : length bs ≡ openedSize
   long =
       ap length is ∙ simp (length-append, be32-length, length-replicate) (omega (arith, file-length s count h, offsets-length os))
 
@@ -198,11 +199,11 @@ module _ (s kept : List ℕ) (count : ℕ) (os : List ℕ) (start : LoopStart) (
       let l = long in
       record { before = []; rest = drop (0 + length bs) kept; long = refl; is = putAt-in kept 0 bs (omega arith) }
 
-  all : At (putAt kept 0 bs) 0 (((fileKept s count ++ be32 (length os)) ++ be32 (loopNumber start)) ++ (concat be32 os ++ replicate (4 * (512 - length os)) 0))
+  all : At (putAt kept 0 bs) 0 (((fileKept s count ++ be32 (length os)) ++ be32 (loopNumber start)) ++ (concat be32 os ++ replicate (4 * (blockLimit - length os)) 0))
   all = at-same _ is there
 
   front : At (putAt kept 0 bs) 0 ((fileKept s count ++ be32 (length os)) ++ be32 (loopNumber start))
-  front = at-left ((fileKept s count ++ be32 (length os)) ++ be32 (loopNumber start)) (concat be32 os ++ replicate (4 * (512 - length os)) 0) all
+  front = at-left ((fileKept s count ++ be32 (length os)) ++ be32 (loopNumber start)) (concat be32 os ++ replicate (4 * (blockLimit - length os)) 0) all
 
   head : At (putAt kept 0 bs) 0 (fileKept s count ++ be32 (length os))
   head = at-left (fileKept s count ++ be32 (length os)) (be32 (loopNumber start)) front
@@ -213,23 +214,23 @@ module _ (s kept : List ℕ) (count : ℕ) (os : List ℕ) (start : LoopStart) (
   head-long : length (fileKept s count ++ be32 (length os)) ≡ 132
   head-long = length-append (fileKept s count) (be32 (length os)) ∙ omega (arith, file-length s count h, be32-length (length os))
 
-  front-long : length ((fileKept s count ++ be32 (length os)) ++ be32 (loopNumber start)) ≡ 136
+  front-long : length ((fileKept s count ++ be32 (length os)) ++ be32 (loopNumber start)) ≡ offsetsAt
   front-long = length-append (fileKept s count ++ be32 (length os)) (be32 (loopNumber start)) ∙ omega (arith, head-long, be32-length (loopNumber start))
 
-  pub blocks-there : At (putAt kept 0 bs) 128 (be32 (length os))
-  blocks-there = at-move 128 (omega (arith, file-length s count h)) (at-right (fileKept s count) (be32 (length os)) head)
+  pub blocks-there : At (putAt kept 0 bs) fileHeaderSize (be32 (length os))
+  blocks-there = at-move fileHeaderSize (omega (arith, file-length s count h)) (at-right (fileKept s count) (be32 (length os)) head)
 
   pub loop-there : At (putAt kept 0 bs) 132 (be32 (loopNumber start))
   loop-there = at-move 132 (omega (arith, head-long)) (at-right (fileKept s count ++ be32 (length os)) (be32 (loopNumber start)) front)
 
-  pub table-there : At (putAt kept 0 bs) 136 (concat be32 os)
+  pub table-there : At (putAt kept 0 bs) offsetsAt (concat be32 os)
   table-there =
-      at-left (concat be32 os) (replicate (4 * (512 - length os)) 0)
-      (at-move 136 (omega (arith, front-long)) (at-right ((fileKept s count ++ be32 (length os)) ++ be32 (loopNumber start)) (concat be32 os ++ replicate (4 * (512 - length os)) 0) all))
+      at-left (concat be32 os) (replicate (4 * (blockLimit - length os)) 0)
+      (at-move offsetsAt (omega (arith, front-long)) (at-right ((fileKept s count ++ be32 (length os)) ++ be32 (loopNumber start)) (concat be32 os ++ replicate (4 * (blockLimit - length os)) 0) all))
 
 -- the first channel's bytes are the slot's, and the second's where it is in use
-module _ (s k : List ℕ) (count : ℕ) (h : 128 ≤ length s) (a : At k 0 (fileKept s count)) where
-  byte : (i : ℕ) → i < 128 → getD k i 0 ≡ getD (fileKept s count) i 0
+module _ (s k : List ℕ) (count : ℕ) (h : fileHeaderSize ≤ length s) (a : At k 0 (fileKept s count)) where
+  byte : (i : ℕ) → i < fileHeaderSize → getD k i 0 ≡ getD (fileKept s count) i 0
   byte i b = at-byte i i (omega arith) a ∙ List·getD-append (fileKept s count) (a .rest) 0 i (omega (arith, file-length s count h))
 
   pub file-agrees : Agree k s 0 72
@@ -237,12 +238,12 @@ module _ (s k : List ℕ) (count : ℕ) (h : 128 ≤ length s) (a : At k 0 (file
   file-agrees i l b =
       byte i (omega arith)
       ∙ by-cases (eqb count 2)
-      (λ t. rw t (getD-take 128 s i 0 (omega arith)))
+      (λ t. rw t (getD-take fileHeaderSize s i 0 (omega arith)))
       (λ t. rw t (List·getD-append (take 72 s) (replicate 56 0) 0 i (omega (arith, length-take-le 72 s (omega arith))) ∙ getD-take 72 s i 0 b))
 
-  pub second-agrees : eqb count 2 ≡ true → Agree k s 72 128
+  pub second-agrees : eqb count 2 ≡ true → Agree k s 72 fileHeaderSize
   unfolding fileKept
-  second-agrees t i l b = byte i b ∙ rw t (getD-take 128 s i 0 b)
+  second-agrees t i l b = byte i b ∙ rw t (getD-take fileHeaderSize s i 0 b)
 
   pub second-none : eqb count 2 ≡ false → At k 72 (replicate 56 0)
   unfolding fileKept
@@ -250,27 +251,27 @@ module _ (s k : List ℕ) (count : ℕ) (h : 128 ≤ length s) (a : At k 0 (file
       let f : At k 0 (take 72 s ++ replicate 56 0) = at-same (take 72 s ++ replicate 56 0) (rw t) a in
       at-move 72 (omega (arith, length-take-le 72 s (omega arith))) (at-right (take 72 s) (replicate 56 0) f)
 
-  module _ (m : 128 ≤ length k) (l r : Channel) (f : readChannel s 16 ≡ Read.value l) (g : readChannel s 72 ≡ Read.value r) where
+  module _ (m : fileHeaderSize ≤ length k) (l r : Channel) (f : readChannel s 16 ≡ Read.value l) (g : readChannel s 72 ≡ Read.value r) where
     pub left-back : readChannel k 16 ≡ Read.value l
     left-back = channel-same k s 0 72 file-agrees 16 (omega arith) (omega arith) (omega arith) (omega arith) ∙ f
 
     pub right-back : readChannel k 72 ≡ Read.value (pick (eqb count 2) r noChannel)
     right-back =
         by-cases (eqb count 2)
-        (λ t. rw t (channel-same k s 72 128 (second-agrees t) 72 (omega arith) (omega arith) (omega arith) (omega arith) ∙ g))
+        (λ t. rw t (channel-same k s 72 fileHeaderSize (second-agrees t) 72 (omega arith) (omega arith) (omega arith) (omega arith) ∙ g))
         (λ t. rw t (channel-back k 72 noChannel none-fits (at-same (channelBytes noChannel) (sym none-bytes) (second-none t))))
 
 -- a channel that was read lies in the slot
-channel-inside : (s : List ℕ) (c : Channel) → readChannel s 72 ≡ Read.value c → 128 ≤ length s
+channel-inside : (s : List ℕ) (c : Channel) → readChannel s 72 ≡ Read.value c → fileHeaderSize ≤ length s
 unfolding readChannel
 channel-inside s c e =
-    by-cases (leb 128 (length s)) (λ t. leb-true 128 (length s) t)
+    by-cases (leb fileHeaderSize (length s)) (λ t. leb-true fileHeaderSize (length s) t)
     (λ t.
-    let h = leb-false 128 (length s) t in
+    let h = leb-false fileHeaderSize (length s) t in
     absurd (by-cases (leb 76 (length s))
     (λ u.
     let k = rw (field-inside s 76 (u16At s 74) (leb-true 76 (length s) u)) at e in
-    formats (formatOf (u16At s 74)) (λ f. field-past s 128 (channelAt s 72 f) h) k)
+    formats (formatOf (u16At s 74)) (λ f. field-past s fileHeaderSize (channelAt s 72 f) h) k)
     (λ u.
     let k = rw (field-past s 76 (u16At s 74) (leb-false 76 (length s) u)) at e in
     apart-read 1 c k)))
@@ -278,12 +279,12 @@ channel-inside s c e =
     apart-read : (n : ℕ) (c : Channel) → Read.refused n ≡ Read.value c → ⊥
     apart-read n c e = let z : _≡_ {A = ℕ} 0 1 = cc in omega arith
 
-    formats : (q : Read DspFormat) → ((f : DspFormat) → field s 128 (channelAt s 72 f) ≡ Read.refused 1) → on q Read.refused (λ f. field s 128 (channelAt s 72 f)) ≡ Read.value c → ⊥
+    formats : (q : Read DspFormat) → ((f : DspFormat) → field s fileHeaderSize (channelAt s 72 f) ≡ Read.refused 1) → on q Read.refused (λ f. field s fileHeaderSize (channelAt s 72 f)) ≡ Read.value c → ⊥
     formats (Read.refused n) g e = apart-read n c e
     formats (Read.value f) g e = apart-read 1 c (sym (g f) ∙ e)
 
 -- a slot that opens has a whole header
-pub opened-long : (s : List ℕ) (r : HpsReader) → opening s ≡ Opened.opened r → 128 ≤ length s
+pub opened-long : (s : List ℕ) (r : HpsReader) → opening s ≡ Opened.opened r → fileHeaderSize ≤ length s
 opened-long s r e = channel-inside s _ (opened-parts s r e .right-read)
 
 made-offsets : (rate count : ℕ) (l r : Channel) (os : List ℕ) (start : LoopStart) → made rate count l r os start .blocks ≤ length (made rate count l r os start .offsets)
@@ -296,15 +297,15 @@ opened-offsets s r e = let p = opened-parts s r e in rw (← (p .is)) (made-offs
 
 -- the bytes of a record by its parts
 bytes-are : (s : List ℕ) (rate count : ℕ) (l r : Channel) (os : List ℕ) (start : LoopStart)
-    → openedBytes s (made rate count l r os start) ≡ ((fileKept s count ++ be32 (length os)) ++ be32 (loopNumber start)) ++ (concat be32 os ++ replicate (4 * (512 - length os)) 0)
+    → openedBytes s (made rate count l r os start) ≡ ((fileKept s count ++ be32 (length os)) ++ be32 (loopNumber start)) ++ (concat be32 os ++ replicate (4 * (blockLimit - length os)) 0)
 unfolding openedParts offsetsKept made
-bytes-are s rate count l r os start = rw (take-append-seam os (replicate (512 - length os) 0))
+bytes-are s rate count l r os start = rw (take-append-seam os (replicate (blockLimit - length os) 0))
 
 blocks-made : (rate count : ℕ) (l r : Channel) (os : List ℕ) (start : LoopStart) → length os ≡ made rate count l r os start .blocks
 unfolding made
 blocks-made rate count l r os start = refl
 
-module _ (s kept : List ℕ) (b : Bytes s) (h : 128 ≤ length s) (room : 2184 ≤ length kept) {r : HpsReader} (p : Parts s r) (few : length (p .offsets) ≤ 512) where
+module _ (s kept : List ℕ) (b : Bytes s) (h : fileHeaderSize ≤ length s) (room : openedSize ≤ length kept) {r : HpsReader} (p : Parts s r) (few : length (p .offsets) ≤ blockLimit) where
   back : readerIn (putAt kept 0 (openedBytes s (made (p .rate) (p .count) (p .left) (p .right) (p .offsets) (p .start)))) ≡ made (p .rate) (p .count) (p .left) (p .right) (p .offsets) (p .start)
   unfolding made
   back =
@@ -313,21 +314,21 @@ module _ (s kept : List ℕ) (b : Bytes s) (h : 128 ≤ length s) (room : 2184 �
       let k = putAt kept 0 bs in
       let is = bytes-are s (p .rate) (p .count) (p .left) (p .right) os (p .start) in
       let n : length k ≡ length kept = putAt-length kept 0 bs in
-      let m : 2184 ≤ length k = omega arith in
-      let m′ : 128 ≤ length k = omega arith in
+      let m : openedSize ≤ length k = omega arith in
+      let m′ : fileHeaderSize ≤ length k = omega arith in
       let f = file-there s kept (p .count) os (p .start) h bs is room few in
       let g = file-agrees s k (p .count) h f in
-      let w = walk-is 512 s [] 128 os (p .start) b All.none (omega arith) (p .walk) in
+      let w = walk-is blockLimit s [] firstBlockOffset os (p .start) b All.none (omega arith) (p .walk) in
       let lb = loop-back (p .start) (λ i z. omega (arith, w .loop i z)) in
       let two : p .count ≤ 2 = ⊎-elim (λ z. omega arith) (λ z. omega arith) (one-or-two (p .count) (p .right-count)) in
       let rate : p .rate ≡ wordAt k 8 = field-value s 12 (u32At s 8) (p .rate) (p .rate-read) .is ∙ sym (word-in k 8 (omega arith) ∙ u32-same k s 0 72 g 8 (omega arith) (omega arith)) in
       let count : p .count ≡ wordAt k 12 = field-value s 16 (u32At s 12) (p .count) (p .count-read) .is ∙ sym (word-in k 12 (omega arith) ∙ u32-same k s 0 72 g 12 (omega arith) (omega arith)) in
-      let blocks : length os ≡ wordAt k 128 = sym (word-in k 128 (omega arith) ∙ u32-back (omega arith) (blocks-there s kept (p .count) os (p .start) h bs is room few)) in
+      let blocks : length os ≡ wordAt k fileHeaderSize = sym (word-in k fileHeaderSize (omega arith) ∙ u32-back (omega arith) (blocks-there s kept (p .count) os (p .start) h bs is room few)) in
       let number : loopNumber (p .start) ≡ wordAt k 132 = sym (word-in k 132 (omega arith) ∙ u32-back (lb .0) (loop-there s kept (p .count) os (p .start) h bs is room few)) in
-      sym (part-made k 0 512 m count two blocks few
+      sym (part-made k 0 blockLimit m count two blocks few
       (left-back s k (p .count) h f m′ (p .left) (p .right) (p .left-read) (p .right-read))
       (right-back s k (p .count) h f m′ (p .left) (p .right) (p .left-read) (p .right-read))
-      rate refl refl refl (second-lesser 512 (length os) few)
+      rate refl refl refl (second-lesser blockLimit (length os) few)
       (table-back k os (w .small) few (table-there s kept (p .count) os (p .start) h bs is room few)) number (lb .1))
 
 -- a slot of bytes that opens to a record, and room for one: what is put is read back
@@ -335,7 +336,7 @@ pub read-back : ReadBack
 read-back s kept r b e room =
     let p = opened-parts s r e in
     let ok : Readable r = and-readable s (openCall (Opened.opened r)) (ap openCall (sym e)) .1 in
-    let few : length (p .offsets) ≤ 512 = rw (blocks-of p) (ok .blocks) in
+    let few : length (p .offsets) ≤ blockLimit = rw (blocks-of p) (ok .blocks) in
     rw (← (p .is)) (back s kept b (opened-long s r e) room p few)
   where
     blocks-of : {r : HpsReader} (p : Parts s r) → length (p .offsets) ≡ r .blocks

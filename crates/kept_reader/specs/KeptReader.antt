@@ -7,7 +7,7 @@ use lib.Dec.{ltb, leb, eqb}
 use Rattle.layout.specs.Choice.{pick, _and_}
 use Rattle.layout.specs.Lists.{concat}
 use Rattle.layout.specs.Puts.{putAt}
-use Rattle.layout.specs.Records.{u32At, be32, on, readChannel}
+use Rattle.layout.specs.Records.{u32At, be32, on, readChannel, fileHeaderSize}
 use Rattle.layout.specs.Refusals.{blockLimit}
 use Rattle.layout.specs.Types.{Bytes}
 use Rattle.reader.specs.OpeningAndReading.{Opened, opening}
@@ -32,9 +32,13 @@ be64 x = be32 (x / 4294967296) ++ be32 (x % 4294967296)
 unfoldable pub putLong : List ℕ → (at x : ℕ) → List ℕ
 putLong s at x = putAt (putAt s at (be32 (x / 4294967296))) (at + 4) (be32 (x % 4294967296))
 
+-- Where the blocks' offsets lie: after the file header, the count of blocks and the loop start.
+abbrev pub offsetsAt : ℕ
+offsetsAt = fileHeaderSize + 4 + 4
+
 -- The bytes of a record.
 abbrev pub openedSize : ℕ
-openedSize = 2184
+openedSize = offsetsAt + 4 * blockLimit
 
 -- The number for no loop.
 abbrev pub noLoop : ℕ
@@ -51,7 +55,7 @@ loopOf n = pick (eqb n noLoop) None (Block n)
 
 -- The file header, with zeros for a channel that is not in use.
 unfoldable pub fileKept : List ℕ → (count : ℕ) → List ℕ
-fileKept s count = pick (eqb count 2) (take 128 s) (take 72 s ++ replicate 56 0)
+fileKept s count = pick (eqb count 2) (take fileHeaderSize s) (take 72 s ++ replicate 56 0)
 
 -- "block offsets (zeros beyond)": the places of 512 offsets.
 unfoldable pub offsetsKept : (blocks : ℕ) (offsets : List ℕ) → List ℕ
@@ -68,7 +72,7 @@ openedBytes s r = openedParts s (r .count) (r .blocks) (r .«loop_start») (r .o
 -- The offsets of n blocks from block i on: those from one block to another as they stand there, zeros elsewhere.
 unfoldable pub offsetsIn : List ℕ → (from to : ℕ) → (n i : ℕ) → List ℕ
 offsetsIn kept from to zero i = []
-offsetsIn kept from to (suc n) i = pick (leb from i and ltb i to) (u32At kept (136 + 4 * i)) 0 ∷ offsetsIn kept from to n (i + 1)
+offsetsIn kept from to (suc n) i = pick (leb from i and ltb i to) (u32At kept (offsetsAt + 4 * i)) 0 ∷ offsetsIn kept from to n (i + 1)
 
 -- The lesser of two numbers.
 abbrev pub lesser : ℕ → ℕ → ℕ
@@ -80,10 +84,10 @@ unfoldable pub partIn : List ℕ → (from to : ℕ) → HpsReader
 partIn kept from to =
     pick (ltb (length kept) openedSize) noReader
     (pick (ltb 2 (u32At kept 12)) noReader
-    (pick (ltb blockLimit (u32At kept 128)) noReader
+    (pick (ltb blockLimit (u32At kept fileHeaderSize)) noReader
     (on (readChannel kept 16) (λ n. noReader) (λ l.
     on (readChannel kept 72) (λ n. noReader) (λ r.
-    record { rate = u32At kept 8; count = u32At kept 12; channels = l ∷ r ∷ []; blocks = u32At kept 128; offsets = offsetsIn kept from (lesser to (u32At kept 128)) blockLimit 0; «loop_start» = loopOf (u32At kept 132) })))))
+    record { rate = u32At kept 8; count = u32At kept 12; channels = l ∷ r ∷ []; blocks = u32At kept fileHeaderSize; offsets = offsetsIn kept from (lesser to (u32At kept fileHeaderSize)) blockLimit 0; «loop_start» = loopOf (u32At kept 132) })))))
 
 -- The whole record that bytes stand for.
 abbrev pub readerIn : List ℕ → HpsReader

@@ -3,6 +3,8 @@ use crate::fields::word;
 use header_records::channels::no_channel;
 use header_records::channels::read_channel;
 use layout::answers::ReadAnswer;
+use layout::limits::BLOCK_LIMIT;
+use layout::limits::FILE_HEADER_SIZE;
 use reader::HpsReader;
 use reader::LoopStart;
 ghost use mathlib.Core.Path.{_≡_};
@@ -11,14 +13,17 @@ ghost use lib.ListN.{length};
 ghost use Rattle.reader.specs.OpeningAndReading.{Readable};
 ghost use Rattle.reader.specs.ReaderAnswers.{noReader};
 ghost use Rattle.kept_reader.specs.KeptReader.{loopOf, offsetsIn, lesser, partIn, ReadBack};
+ghost use Rattle.layout.specs.Refusals.{blockLimit};
 
-pub const OPENED_SIZE: usize = 2184;
+pub const BLOCKS_AT: usize = FILE_HEADER_SIZE;
 
-pub const BLOCKS_AT: usize = 128;
+pub const LOOP_AT: usize = BLOCKS_AT + 4;
 
-pub const LOOP_AT: usize = 132;
+pub const OFFSETS_AT: usize = LOOP_AT + 4;
 
-pub const OFFSETS_AT: usize = 136;
+pub const OFFSETS_SIZE: usize = 4 * BLOCK_LIMIT;
+
+pub const OPENED_SIZE: usize = OFFSETS_AT + OFFSETS_SIZE;
 
 pub const NO_LOOP: u32 = 0xFFFF_FFFF;
 
@@ -33,11 +38,11 @@ fn loop_of(number: u32) -> LoopStart
 }
 
 // The offsets of the blocks from one to another, zeros elsewhere.
-fn offsets_in(kept: &[u8], from: usize, to: usize) -> [u32; 512]
-    requires { ⌜ (to ≤ 512) × (2184 ≤ length (now kept)) ⌝ }
-    ensures { λ r. ⌜ r ≡ offsetsIn (now (kept .entry)) from to 512 0 ⌝ }
+fn offsets_in(kept: &[u8], from: usize, to: usize) -> [u32; BLOCK_LIMIT]
+    requires { ⌜ (to ≤ blockLimit) × (2184 ≤ length (now kept)) ⌝ }
+    ensures { λ r. ⌜ r ≡ offsetsIn (now (kept .entry)) from to blockLimit 0 ⌝ }
 {
-    let mut offsets = [0u32; 512];
+    let mut offsets = [0u32; BLOCK_LIMIT];
     let mut i = from;
     while i < to {
         offsets[i] = word(kept, OFFSETS_AT + 4 * i);
@@ -59,7 +64,7 @@ fn no_reader() -> HpsReader
 {
     let none = no_channel();
     let channels = [none; 2];
-    let offsets = [0u32; 512];
+    let offsets = [0u32; BLOCK_LIMIT];
     let loop_start = LoopStart::None;
     HpsReader {
         rate: 0,
@@ -85,7 +90,7 @@ pub fn reader_in(kept: &[u8], from: usize, to: usize) -> HpsReader
     if count > 2 {
         return no_reader();
     }
-    if blocks > 512 {
+    if blocks > BLOCK_LIMIT {
         return no_reader();
     }
     let left = read_channel(kept, 16);

@@ -15,16 +15,17 @@ use Rattle.kept_puts.specs.KeptNumbers.{numberBytes}
 use Rattle.kept_puts.proofs.NumberLaws.{numbers-length}
 use Rattle.kept_record.specs.KeptRecord.{sideBytes, recordBytes, pushedBytes}
 use borrow.Author.Tests.{eq-eqb, ne-eqb}
+use Rattle.kept_sides.specs.KeptSides.{cuesAt, leftAt, rightAt, sideSize}
 
 -- ---- A side
 
-pub side-length : (b : ChannelBlock) → length (b .coefficients) ≡ 16 → length (sideBytes b) ≡ 48
+pub side-length : (b : ChannelBlock) → length (b .coefficients) ≡ 16 → length (sideBytes b) ≡ sideSize
 unfolding sideBytes
 side-length b h =
     simp (length-append, be32-length, be16-length, context-length)
     (omega (arith, h, coefficients-length (b .coefficients)))
 
-pub side-put : (k k₁ k₂ k₃ k₄ : List ℕ) {k₅ : List ℕ} (at : ℕ) (b : ChannelBlock) → at + 48 ≤ length k → length (b .coefficients) ≡ 16 → k₁ ≡ putAt k at (be32 (b .rate))
+pub side-put : (k k₁ k₂ k₃ k₄ : List ℕ) {k₅ : List ℕ} (at : ℕ) (b : ChannelBlock) → at + sideSize ≤ length k → length (b .coefficients) ≡ 16 → k₁ ≡ putAt k at (be32 (b .rate))
     → k₂ ≡ putAt k₁ (at + 4) (be32 (b .length % 4294967296)) → k₃ ≡ putAt k₂ (at + 8) (concat beZ16 (b .coefficients))
     → k₄ ≡ putAt k₃ (at + 40) (be16 (b .gain)) → k₅ ≡ putAt k₄ (at + 42) (contextBytes (b .context)) → k₅ ≡ putAt k at (sideBytes b)
 unfolding sideBytes
@@ -36,19 +37,19 @@ side-put k k₁ k₂ k₃ k₄ at b room h e₁ e₂ e₃ e₄ e₅ =
     let t = put-then r (be16 (b .gain)) (be16-length _) e₄ refl (omega arith) in
     put-then t (contextBytes (b .context)) (context-length _) e₅ refl (omega arith) .is
 
-pub sides-put : (k k₁ : List ℕ) {k₂ : List ℕ} (l r : ChannelBlock) → 184 ≤ length k → length (l .coefficients) ≡ 16 → length (r .coefficients) ≡ 16
-    → k₁ ≡ putAt k 88 (sideBytes l) → k₂ ≡ putAt k₁ 136 (sideBytes r) → k₂ ≡ putAt k 88 (sideBytes l ++ sideBytes r)
+pub sides-put : (k k₁ : List ℕ) {k₂ : List ℕ} (l r : ChannelBlock) → cuesAt ≤ length k → length (l .coefficients) ≡ 16 → length (r .coefficients) ≡ 16
+    → k₁ ≡ putAt k leftAt (sideBytes l) → k₂ ≡ putAt k₁ rightAt (sideBytes r) → k₂ ≡ putAt k leftAt (sideBytes l ++ sideBytes r)
 sides-put k k₁ l r room hl hr e₁ e₂ =
-    let p : Put k 88 48 (sideBytes l) _ = record { size = side-length l hl; is = e₁ } in
+    let p : Put k leftAt sideSize (sideBytes l) _ = record { size = side-length l hl; is = e₁ } in
     put-then p (sideBytes r) (side-length r hr) e₂ refl (omega arith) .is
 
 -- ---- The bytes that are put
 
 module _ (k k₁ : List ℕ) (s : Stream) (is : k₁ ≡ putAt k 0 (numberBytes s)) where
-  pub record-put : {k₂ : List ℕ} → 184 ≤ length k → length (s .left .coefficients) ≡ 16 → length (s .right .coefficients) ≡ 16 → k₂ ≡ putAt k₁ 88 (sideBytes (s .left) ++ sideBytes (s .right)) → k₂ ≡ putAt k 0 (recordBytes s)
+  pub record-put : {k₂ : List ℕ} → cuesAt ≤ length k → length (s .left .coefficients) ≡ 16 → length (s .right .coefficients) ≡ 16 → k₂ ≡ putAt k₁ leftAt (sideBytes (s .left) ++ sideBytes (s .right)) → k₂ ≡ putAt k 0 (recordBytes s)
   unfolding recordBytes
   record-put room l r e =
-      let p : Put k 0 88 (numberBytes s) k₁ = record { size = numbers-length s; is = is } in
+      let p : Put k 0 leftAt (numberBytes s) k₁ = record { size = numbers-length s; is = is } in
       let n : length (sideBytes (s .left) ++ sideBytes (s .right)) ≡ 96 = length-append (sideBytes (s .left)) (sideBytes (s .right)) ∙ omega (arith, side-length (s .left) l, side-length (s .right) r) in
       put-then p (sideBytes (s .left) ++ sideBytes (s .right)) n e refl (omega arith) .is
 

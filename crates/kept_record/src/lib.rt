@@ -1,6 +1,8 @@
 // The writer's record put into lent bytes after a push: numbers and sides.
 use header_bytes::put_coefficients;
 use kept_puts::put_numbers;
+use kept_sides::places::LEFT_AT;
+use kept_sides::places::RIGHT_AT;
 use push_plan::Stream;
 use puts::put_context;
 use puts::put_u16;
@@ -12,13 +14,10 @@ ghost use Prim.Native.Nat.{_+_, _<_, _≤_};
 ghost use lib.ListN.{length};
 ghost use Rattle.layout.specs.Puts.{putAt};
 ghost use Rattle.kept_record.specs.KeptRecord.{sideBytes, pushedBytes};
-
-const LEFT_AT: usize = 88;
-
-const RIGHT_AT: usize = 136;
+ghost use Rattle.kept_sides.specs.KeptSides.{cuesAt, leftAt, sideSize};
 
 fn put_side(buf: &mut [u8], at: usize, side: ChannelBlock)
-    requires { ⌜ (at < 4096) × (at + 48 ≤ length (now buf)) ⌝ }
+    requires { ⌜ (at < 4096) × (at + sideSize ≤ length (now buf)) ⌝ }
     ensures { λ _. ⌜ now (buf .exit) ≡ putAt (now (buf .entry)) at (sideBytes side) ⌝ }
 {
     put_u32(buf, at, side.rate);
@@ -32,8 +31,8 @@ fn put_side(buf: &mut [u8], at: usize, side: ChannelBlock)
 
 // The first block's sides.
 pub fn put_sides(kept: &mut [u8], left: ChannelBlock, right: ChannelBlock)
-    requires { ⌜ 184 ≤ length (now kept) ⌝ }
-    ensures { λ _. ⌜ now (kept .exit) ≡ putAt (now (kept .entry)) 88 (sideBytes left ++ sideBytes right) ⌝ }
+    requires { ⌜ cuesAt ≤ length (now kept) ⌝ }
+    ensures { λ _. ⌜ now (kept .exit) ≡ putAt (now (kept .entry)) leftAt (sideBytes left ++ sideBytes right) ⌝ }
 {
     put_side(kept, LEFT_AT, left);
     put_side(kept, RIGHT_AT, right);
@@ -41,7 +40,7 @@ pub fn put_sides(kept: &mut [u8], left: ChannelBlock, right: ChannelBlock)
 
 // The numbers after a push, and after the first the sides: after a later block they stand there already.
 pub fn put_pushed(kept: &mut [u8], s: Stream)
-    requires { ⌜ 184 ≤ length (now kept) ⌝ }
+    requires { ⌜ cuesAt ≤ length (now kept) ⌝ }
     ensures { λ _. ⌜ now (kept .exit) ≡ putAt (now (kept .entry)) 0 (pushedBytes s) ⌝ }
 {
     put_numbers(kept, s);

@@ -12,6 +12,7 @@ use Rattle.writer.specs.Calls.{noCue}
 use Rattle.writer.specs.declared.Cue.{Cue}
 use Rattle.writer.specs.declared.CueKind.{CueKind}
 use Rattle.kept_sides.specs.KeptSides.{kindOf, signedAt, signedFrom, cueIn, cuesFrom, tableIn}
+use Rattle.layout.specs.Refusals.{cueLimit}
 
 -- ---- Kinds
 
@@ -99,20 +100,20 @@ module _ (s : List ℕ) where
 
   -- of a table of zeros the first i are read
   abbrev pub Cues : (at : ℕ) (cs : List Cue) (i : ℕ) → Type 0
-  Cues = Reading noCue 128 24 (cueIn s) (cuesFrom s) cues-none cues-more
+  Cues = Reading noCue cueLimit 24 (cueIn s) (cuesFrom s) cues-none cues-more
 
-  pub cues-start : (at : ℕ) → Cues at (replicate 128 noCue) 0
-  cues-start = reading-none noCue 128 24 (cueIn s) (cuesFrom s) cues-none cues-more
+  pub cues-start : (at : ℕ) → Cues at (replicate cueLimit noCue) 0
+  cues-start = reading-none noCue cueLimit 24 (cueIn s) (cuesFrom s) cues-none cues-more
 
-  pub cues-again : (at : ℕ) (cs : List Cue) (i : ℕ) (c : Cue) → Cues at cs i → i < 128 → c ≡ cueIn s (at + 24 * i) → Cues at (set cs i c) (i + 1)
-  cues-again = reading-more noCue 128 24 (cueIn s) (cuesFrom s) cues-none cues-more
+  pub cues-again : (at : ℕ) (cs : List Cue) (i : ℕ) (c : Cue) → Cues at cs i → i < cueLimit → c ≡ cueIn s (at + 24 * i) → Cues at (set cs i c) (i + 1)
+  cues-again = reading-more noCue cueLimit 24 (cueIn s) (cuesFrom s) cues-none cues-more
 
   pub cues-end : (at : ℕ) (cs : List Cue) (i n : ℕ) → Cues at cs i → i ≡ n → cs ≡ tableIn s at n
   unfolding tableIn
   cues-end at cs i n r e = r .is ∙ rw e
 
-  pub table-length : (at n : ℕ) → n ≤ 128 → length (tableIn s at n) ≡ 128
+  pub table-length : (at n : ℕ) → n ≤ cueLimit → length (tableIn s at n) ≡ cueLimit
   unfolding tableIn
   table-length at n h =
-      length-append (cuesFrom s at n) (replicate (128 - n) noCue)
-      ∙ rw (some-length noCue 128 24 (cueIn s) (cuesFrom s) cues-none cues-more at n, length-replicate (128 - n) noCue) (omega arith)
+      length-append (cuesFrom s at n) (replicate (cueLimit - n) noCue)
+      ∙ rw (some-length noCue cueLimit 24 (cueIn s) (cuesFrom s) cues-none cues-more at n, length-replicate (cueLimit - n) noCue) (omega arith)

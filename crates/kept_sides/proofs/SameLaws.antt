@@ -6,7 +6,7 @@ use native.Mathlib.Omega.{arith}
 use lib.ListN.{length}
 use Rattle.kept_reader.specs.KeptReader.{wordAt, longAt}
 use Rattle.kept_reader.proofs.ReadBackLaws.{Agree, u16-same, u32-same}
-use Rattle.kept_sides.specs.KeptSides.{halfAt, signedAt, signedFrom, sideIn, cueIn, cuesFrom, tableIn}
+use Rattle.kept_sides.specs.KeptSides.{halfAt, signedAt, signedFrom, sideIn, cueIn, cuesFrom, tableIn, sideSize}
 
 module _ (s t : List ℕ) (from to : ℕ) (a : Agree s t from to) (long : length s ≡ length t) where
   pub word-same : (at : ℕ) → from ≤ at → at + 4 ≤ to → wordAt s at ≡ wordAt t at
@@ -30,7 +30,7 @@ module _ (s t : List ℕ) (from to : ℕ) (a : Agree s t from to) (long : length
   some-same zero at l h = refl
   some-same (suc n) at l h = rw (signed-same at l (omega arith), some-same n (at + 2) (omega arith) (omega arith))
 
-  pub side-same : (at : ℕ) → from ≤ at → at + 48 ≤ to → sideIn s at ≡ sideIn t at
+  pub side-same : (at : ℕ) → from ≤ at → at + sideSize ≤ to → sideIn s at ≡ sideIn t at
   unfolding sideIn
   side-same at l h =
       rw (word-same at l (omega arith), word-same (at + 4) (omega arith) (omega arith), some-same 16 (at + 8) (omega arith) (omega arith), half-same (at + 40) (omega arith) (omega arith), half-same (at + 42) (omega arith) (omega arith), signed-same (at + 44) (omega arith) (omega arith), signed-same (at + 46) (omega arith) (omega arith))

@@ -1,4 +1,9 @@
 // What a push says of a channel, and a cue of the table, in bytes.
+
+pub mod places; // places.rt: where the fields of the writer's record lie
+
+use crate::places::CUE_SIZE;
+use crate::places::SIDE_SIZE;
 use kept_reader::fields::long;
 use kept_reader::fields::word;
 use layout::FrameContext;
@@ -6,18 +11,14 @@ use layout::fields::I16Read;
 use layout::fields::U16Read;
 use layout::fields::read_i16;
 use layout::fields::read_u16;
+use layout::limits::CUE_LIMIT;
 use writer::ChannelBlock;
 use writer::Cue;
 use writer::CueKind;
 ghost use mathlib.Core.Path.{_≡_};
 ghost use Prim.Native.Nat.{_<_, _≤_};
+ghost use Rattle.layout.specs.Refusals.{cueLimit};
 ghost use Rattle.kept_sides.specs.KeptSides.{halfAt, signedAt, signedFrom, sideIn, sidesShort, kindOf, cueIn, tableIn};
-
-// A side: rate, length, 16 coefficients, gain, context.
-const SIDE_SIZE: usize = 48;
-
-// A cue: start, range length, kind, name.
-const CUE_SIZE: usize = 24;
 
 fn half(s: &[u8], at: usize) -> u16
     ensures { λ n. ⌜ n ≡ halfAt (now (s .entry)) at ⌝ }
@@ -94,7 +95,7 @@ pub fn kind_of(number: u32, range: u64) -> CueKind
 }
 
 fn cue_in(s: &[u8], at: usize) -> Cue
-    requires { ⌜ at < 4096 ⌝ }
+    requires { ⌜ at < 20000 ⌝ }
     ensures { λ c. ⌜ c ≡ cueIn (now (s .entry)) at ⌝ }
 {
     let kind = kind_of(word(s, at + 16), long(s, at + 8));
@@ -106,8 +107,8 @@ fn cue_in(s: &[u8], at: usize) -> Cue
 }
 
 // The table of n cues from a place on, in a table of zeros.
-pub fn cues_in(s: &[u8], at: usize, n: usize) -> [Cue; 128]
-    requires { ⌜ (at < 1000) × (n ≤ 128) ⌝ }
+pub fn cues_in(s: &[u8], at: usize, n: usize) -> [Cue; CUE_LIMIT]
+    requires { ⌜ (at < 1000) × (n ≤ cueLimit) ⌝ }
     ensures { λ r. ⌜ r ≡ tableIn (now (s .entry)) at n ⌝ }
 {
     let none = Cue {
@@ -115,7 +116,7 @@ pub fn cues_in(s: &[u8], at: usize, n: usize) -> [Cue; 128]
         kind: CueKind::Point,
         name: 0,
     };
-    let mut cues = [none; 128];
+    let mut cues = [none; CUE_LIMIT];
     let mut i: usize = 0;
     while i < n {
         let cue = cue_in(s, at + CUE_SIZE * i);

@@ -18,10 +18,11 @@ use Rattle.writer.specs.declared.Cue.{Cue}
 use Rattle.writer.specs.declared.CueKind.{CueKind}
 use Rattle.kept_reader.specs.KeptReader.{be64, putLong, wordAt, longAt}
 use Rattle.kept_reader.proofs.LongLaws.{be64-length, long-put, word-back, long-back}
-use Rattle.kept_sides.specs.KeptSides.{kindOf, cueIn, cuesFrom, tableIn}
+use Rattle.kept_sides.specs.KeptSides.{kindOf, cueIn, cuesFrom, tableIn, cuesAt, loaderSize}
 use Rattle.kept_puts.proofs.ThereLaws.{put-there}
 use Rattle.kept_puts.proofs.SameLaws.{Same, same-then, same-before, same-after, long-same}
 use Rattle.kept_table.specs.KeptTable.{entryBytes, EntryFits, entriesBytes, tablePut, firstOf}
+use Rattle.layout.specs.Refusals.{cueLimit}
 
 -- ---- A cue
 
@@ -73,7 +74,7 @@ pub entries-none : (l : List ℕ) (at : ℕ) (t : List Cue) (n : ℕ) → Entrie
 unfolding entriesBytes concat
 entries-none l at t n = record { few = omega arith; long = refl; is = sym (putAt-none l at); fit = All.none }
 
-pub entries-more : (l : List ℕ) (at : ℕ) (t : List Cue) (n : ℕ) (b : List ℕ) (i : ℕ) (b′ : List ℕ) (z : Cue) → length t ≡ 128 → n ≤ 128 → at + 24 * n ≤ length l
+pub entries-more : (l : List ℕ) (at : ℕ) (t : List Cue) (n : ℕ) (b : List ℕ) (i : ℕ) (b′ : List ℕ) (z : Cue) → length t ≡ cueLimit → n ≤ cueLimit → at + 24 * n ≤ length l
     → Entries l at t n b i → i < n → b′ ≡ putAt b (at + 24 * i) (entryBytes (getD t i z)) → EntryFits (getD t i z) → Entries l at t n b′ (i + 1)
 unfolding entriesBytes
 entries-more l at t n b i b′ z len most room inv lt e f =
@@ -97,9 +98,9 @@ entries-all l at t n b i inv h =
 
 -- ---- The table
 
-pub table-put : (kept : List ℕ) (t : List Cue) (n : ℕ) {a b : List ℕ} → 3256 ≤ length kept → a ≡ putLong kept 16 n → b ≡ putAt a 184 (entriesBytes t n) → b ≡ tablePut kept t n
+pub table-put : (kept : List ℕ) (t : List Cue) (n : ℕ) {a b : List ℕ} → loaderSize ≤ length kept → a ≡ putLong kept 16 n → b ≡ putAt a cuesAt (entriesBytes t n) → b ≡ tablePut kept t n
 unfolding tablePut
-table-put kept t n h e f = f ∙ ap (λ (l : List ℕ). putAt l 184 (entriesBytes t n)) (e ∙ long-put kept 16 n (omega arith))
+table-put kept t n h e f = f ∙ ap (λ (l : List ℕ). putAt l cuesAt (entriesBytes t n)) (e ∙ long-put kept 16 n (omega arith))
 
 -- ---- What is put is read again
 
@@ -144,35 +145,35 @@ cues-back {s} off (suc n) (c ∷ cs) l (All.more g f) a =
     let y = cues-back {s = s} (off + 24) n cs (omega arith) f (at-move (off + 24) (ap (λ (m : ℕ). off + m) (entry-length c)) (at-right (entryBytes c) (concat entryBytes cs) a)) in
     rw (x, y)
 
-module _ (kept : List ℕ) (t : List Cue) (n : ℕ) (len : length t ≡ 128) (few : n ≤ 128) (room : 3256 ≤ length kept) where
+module _ (kept : List ℕ) (t : List Cue) (n : ℕ) (len : length t ≡ cueLimit) (few : n ≤ cueLimit) (room : loaderSize ≤ length kept) where
   fits-count : 16 + length (be64 n) ≤ length kept
   fits-count = omega (arith, be64-length n)
 
-  fits-table : 184 + length (entriesBytes t n) ≤ length (putAt kept 16 (be64 n))
+  fits-table : cuesAt + length (entriesBytes t n) ≤ length (putAt kept 16 (be64 n))
   fits-table = omega (arith, entries-length t n (omega arith), putAt-length kept 16 (be64 n))
 
   -- all but the count and the table is left
   pub front-left : Same (tablePut kept t n) kept 0 16
   unfolding tablePut
-  front-left = same-then (same-before (putAt kept 16 (be64 n)) 184 (entriesBytes t n) fits-table 0 16 (omega arith)) (same-before kept 16 (be64 n) fits-count 0 16 (omega arith))
+  front-left = same-then (same-before (putAt kept 16 (be64 n)) cuesAt (entriesBytes t n) fits-table 0 16 (omega arith)) (same-before kept 16 (be64 n) fits-count 0 16 (omega arith))
 
-  pub rest-left : Same (tablePut kept t n) kept 24 184
+  pub rest-left : Same (tablePut kept t n) kept 24 cuesAt
   unfolding tablePut
   rest-left =
-      same-then (same-before (putAt kept 16 (be64 n)) 184 (entriesBytes t n) fits-table 24 184 (omega arith))
-      (same-after kept 16 (be64 n) fits-count 24 184 (omega (arith, be64-length n)))
+      same-then (same-before (putAt kept 16 (be64 n)) cuesAt (entriesBytes t n) fits-table 24 cuesAt (omega arith))
+      (same-after kept 16 (be64 n) fits-count 24 cuesAt (omega (arith, be64-length n)))
 
   pub count-back : longAt (tablePut kept t n) 16 ≡ n
   unfolding tablePut
   count-back =
-      long-same (same-before (putAt kept 16 (be64 n)) 184 (entriesBytes t n) fits-table 16 24 (omega arith)) 16 (omega arith) (omega arith)
+      long-same (same-before (putAt kept 16 (be64 n)) cuesAt (entriesBytes t n) fits-table 16 24 (omega arith)) 16 (omega arith) (omega arith)
       ∙ long-back 16 (omega arith) (put-there kept 16 (be64 n) fits-count)
 
-  pub table-back : All EntryFits (take n t) → tableIn (tablePut kept t n) 184 n ≡ firstOf t n
+  pub table-back : All EntryFits (take n t) → tableIn (tablePut kept t n) cuesAt n ≡ firstOf t n
   unfolding tablePut tableIn firstOf entriesBytes
   table-back f =
       let a : List ℕ = putAt kept 16 (be64 n) in
       let la : length a ≡ length kept = putAt-length kept 16 (be64 n) in
       let lb : length (concat entryBytes (take n t)) ≡ 24 * n = entries-length t n (omega arith) in
-      let p : At (putAt a 184 (concat entryBytes (take n t))) 184 (concat entryBytes (take n t)) = put-there a 184 (concat entryBytes (take n t)) (omega arith) in
-      ap (λ (l : List Cue). l ++ replicate (128 - n) noCue) (cues-back 184 n (take n t) (length-take-le n t (omega arith)) f p)
+      let p : At (putAt a cuesAt (concat entryBytes (take n t))) cuesAt (concat entryBytes (take n t)) = put-there a cuesAt (concat entryBytes (take n t)) (omega arith) in
+      ap (λ (l : List Cue). l ++ replicate (cueLimit - n) noCue) (cues-back cuesAt n (take n t) (length-take-le n t (omega arith)) f p)

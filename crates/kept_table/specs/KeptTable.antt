@@ -10,6 +10,7 @@ use Rattle.writer.specs.Loading.{rank, rangeLength}
 use Rattle.writer.specs.Calls.{noCue}
 use Rattle.writer.specs.declared.Cue.{Cue}
 use Rattle.kept_reader.specs.KeptReader.{be64}
+use Rattle.kept_sides.specs.KeptSides.{cuesAt}
 
 -- A cue in 24 bytes: start, range length, kind (0 a point, 1 a loop, 2 a range), name.
 unfoldable pub entryBytes : Cue → List ℕ
@@ -27,7 +28,7 @@ entriesBytes cues n = concat entryBytes (take n cues)
 
 -- The bytes with the table of n cues: how many they are at byte 16, the cues from byte 184 on.
 unfoldable pub tablePut : List ℕ → List Cue → (n : ℕ) → List ℕ
-tablePut kept cues n = putAt (putAt kept 16 (be64 n)) 184 (entriesBytes cues n)
+tablePut kept cues n = putAt (putAt kept 16 (be64 n)) cuesAt (entriesBytes cues n)
 
 -- The first n cues of a table, zeros after them.
 unfoldable pub firstOf : List Cue → (n : ℕ) → List Cue

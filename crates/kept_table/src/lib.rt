@@ -1,5 +1,9 @@
 // The table of cues of the writer's record put into lent bytes.
 use kept_reader::fields::put_long;
+use kept_sides::places::COUNT_AT;
+use kept_sides::places::CUE_SIZE;
+use kept_sides::places::CUES_AT;
+use layout::limits::CUE_LIMIT;
 use puts::put_u32;
 use writer::Cue;
 use writer::CueKind;
@@ -9,14 +13,9 @@ ghost use lib.ListN.{length, take};
 ghost use Rattle.layout.specs.Lists.{All};
 ghost use Rattle.layout.specs.Puts.{putAt};
 ghost use Rattle.writer.specs.Loading.{rank, rangeLength};
-ghost use Rattle.kept_sides.specs.KeptSides.{tableIn};
+ghost use Rattle.kept_sides.specs.KeptSides.{tableIn, loaderSize, cuesAt, cueSize};
 ghost use Rattle.kept_table.specs.KeptTable.{entryBytes, EntryFits, entriesBytes, tablePut, firstOf};
-
-const COUNT_AT: usize = 16;
-
-const CUES_AT: usize = 184;
-
-const CUE_SIZE: usize = 24;
+ghost use Rattle.layout.specs.Refusals.{cueLimit};
 
 fn kind_number(kind: CueKind) -> u32
     ensures { λ n. ⌜ n ≡ rank kind ⌝ }
@@ -39,7 +38,7 @@ fn range_of(kind: CueKind) -> u64
 }
 
 fn put_cue(buf: &mut [u8], at: usize, c: Cue)
-    requires { ⌜ (at < 4096) × (at + 24 ≤ length (now buf)) ⌝ }
+    requires { ⌜ (at < 20000) × (at + cueSize ≤ length (now buf)) ⌝ }
     ensures { λ _. ⌜ now (buf .exit) ≡ putAt (now (buf .entry)) at (entryBytes c) ⌝ }
     ensures { λ _. ⌜ EntryFits c ⌝ }
 {
@@ -50,8 +49,8 @@ fn put_cue(buf: &mut [u8], at: usize, c: Cue)
     put_u32(buf, at + 20, c.name);
 }
 
-fn put_cues(buf: &mut [u8], at: usize, cues: [Cue; 128], n: usize)
-    requires { ⌜ (at < 1000) × (n ≤ 128) × (at + 24 * n ≤ length (now buf)) ⌝ }
+fn put_cues(buf: &mut [u8], at: usize, cues: [Cue; CUE_LIMIT], n: usize)
+    requires { ⌜ (at < 1000) × (n ≤ cueLimit) × (at + cueSize * n ≤ length (now buf)) ⌝ }
     ensures { λ _. ⌜ (now (buf .exit) ≡ putAt (now (buf .entry)) at (entriesBytes cues n)) × All EntryFits (take n cues) ⌝ }
 {
     let mut i: usize = 0;
@@ -63,10 +62,10 @@ fn put_cues(buf: &mut [u8], at: usize, cues: [Cue; 128], n: usize)
 }
 
 // The table of n cues, and how many they are: read again, it has zeros after them.
-pub fn put_table(kept: &mut [u8], cues: [Cue; 128], n: usize)
-    requires { ⌜ (n ≤ 128) × (3256 ≤ length (now kept)) ⌝ }
+pub fn put_table(kept: &mut [u8], cues: [Cue; CUE_LIMIT], n: usize)
+    requires { ⌜ (n ≤ cueLimit) × (loaderSize ≤ length (now kept)) ⌝ }
     ensures { λ _. ⌜ now (kept .exit) ≡ tablePut (now (kept .entry)) cues n ⌝ }
-    ensures { λ _. ⌜ tableIn (now (kept .exit)) 184 n ≡ firstOf cues n ⌝ }
+    ensures { λ _. ⌜ tableIn (now (kept .exit)) cuesAt n ≡ firstOf cues n ⌝ }
 {
     put_long(kept, COUNT_AT, n as u64);
     put_cues(kept, CUES_AT, cues, n);

@@ -15,9 +15,10 @@ use Rattle.writer.specs.declared.Looping.{Looping}
 use Rattle.writer.specs.declared.LoopAt.{LoopAt}
 use Rattle.push_plan.specs.PushPlan.{streamOf, writerOf, loopsTo, loopFrom}
 use Rattle.push_plan.specs.declared.Stream.{Stream}
-use Rattle.kept_sides.specs.KeptSides.{tableIn, cuesFrom}
+use Rattle.kept_sides.specs.KeptSides.{tableIn, cuesFrom, cuesAt, loaderSize}
 use Rattle.kept_sides.proofs.ReadingLaws.{table-length}
 use Rattle.kept_writer.specs.KeptWriter.{modeOf, loopOf, fieldsIn, placesGood, sumsGood, marksGood, loopsWithin, sensible, streamIn, writerIn, heldIn}
+use Rattle.layout.specs.Refusals.{cueLimit, blockLimit, slotLimit, lengthLimit}
 
 -- ---- Mode and loop block
 
@@ -45,47 +46,47 @@ module _ (n : ℕ) where
 -- ---- The tests
 
 module _ (slot offset count next id : ℕ) where
-  pub slot-large : 16777216 < slot → false ≡ placesGood slot offset count next id
+  pub slot-large : slotLimit < slot → false ≡ placesGood slot offset count next id
   unfolding placesGood
-  slot-large h = rw (lt-leb slot 16777216 h)
+  slot-large h = rw (lt-leb slot slotLimit h)
 
-  module _ (a : slot ≤ 16777216) where
+  module _ (a : slot ≤ slotLimit) where
     pub offset-past : slot < offset → false ≡ placesGood slot offset count next id
     unfolding placesGood
-    offset-past h = rw (le-leb slot 16777216 a, lt-leb offset slot h)
+    offset-past h = rw (le-leb slot slotLimit a, lt-leb offset slot h)
 
     module _ (b : offset ≤ slot) where
-      pub count-large : 128 < count → false ≡ placesGood slot offset count next id
+      pub count-large : cueLimit < count → false ≡ placesGood slot offset count next id
       unfolding placesGood
-      count-large h = rw (le-leb slot 16777216 a, le-leb offset slot b, lt-leb count 128 h)
+      count-large h = rw (le-leb slot slotLimit a, le-leb offset slot b, lt-leb count cueLimit h)
 
-      module _ (d : count ≤ 128) where
+      module _ (d : count ≤ cueLimit) where
         pub next-past : count < next → false ≡ placesGood slot offset count next id
         unfolding placesGood
-        next-past h = rw (le-leb slot 16777216 a, le-leb offset slot b, le-leb count 128 d, lt-leb next count h)
+        next-past h = rw (le-leb slot slotLimit a, le-leb offset slot b, le-leb count cueLimit d, lt-leb next count h)
 
         pub places-rest : next ≤ count → leb id (next + 1) ≡ placesGood slot offset count next id
         unfolding placesGood
-        places-rest h = rw (le-leb slot 16777216 a, le-leb offset slot b, le-leb count 128 d, le-leb next count h)
+        places-rest h = rw (le-leb slot slotLimit a, le-leb offset slot b, le-leb count cueLimit d, le-leb next count h)
 
 module _ (blocks base sum : ℕ) where
-  pub blocks-many : 512 < blocks → false ≡ sumsGood blocks base sum
+  pub blocks-many : blockLimit < blocks → false ≡ sumsGood blocks base sum
   unfolding sumsGood
-  blocks-many h = rw (lt-leb blocks 512 h)
+  blocks-many h = rw (lt-leb blocks blockLimit h)
 
-  module _ (a : blocks ≤ 512) where
-    pub base-large : 131072 * blocks < base → false ≡ sumsGood blocks base sum
+  module _ (a : blocks ≤ blockLimit) where
+    pub base-large : lengthLimit * blocks < base → false ≡ sumsGood blocks base sum
     unfolding sumsGood
-    base-large h = rw (le-leb blocks 512 a, lt-leb base (131072 * blocks) h)
+    base-large h = rw (le-leb blocks blockLimit a, lt-leb base (lengthLimit * blocks) h)
 
-    module _ (b : base ≤ 131072 * blocks) where
-      pub sum-large : 131072 * blocks < sum → false ≡ sumsGood blocks base sum
+    module _ (b : base ≤ lengthLimit * blocks) where
+      pub sum-large : lengthLimit * blocks < sum → false ≡ sumsGood blocks base sum
       unfolding sumsGood
-      sum-large h = rw (le-leb blocks 512 a, le-leb base (131072 * blocks) b, lt-leb sum (131072 * blocks) h)
+      sum-large h = rw (le-leb blocks blockLimit a, le-leb base (lengthLimit * blocks) b, lt-leb sum (lengthLimit * blocks) h)
 
-      pub sums-rest : sum ≤ 131072 * blocks → leb (2 * blocks) sum ≡ sumsGood blocks base sum
+      pub sums-rest : sum ≤ lengthLimit * blocks → leb (2 * blocks) sum ≡ sumsGood blocks base sum
       unfolding sumsGood
-      sums-rest h = rw (le-leb blocks 512 a, le-leb base (131072 * blocks) b, le-leb sum (131072 * blocks) h)
+      sums-rest h = rw (le-leb blocks blockLimit a, le-leb base (lengthLimit * blocks) b, le-leb sum (lengthLimit * blocks) h)
 
 module _ (blocks : ℕ) (last finished : Bool) where
   pub marks-last : last ≡ true → ltb 0 blocks ≡ marksGood blocks last finished
@@ -129,18 +130,18 @@ module _ (s : Stream) (a : Bool) (places : a ≡ placesGood (s .slot) (s .offset
 -- ---- The record without its table
 
 module _ (kept : List ℕ) where
-  pub too-short : length kept < 3256 → (s : Stream) → s ≡ streamOf blank → s ≡ streamIn kept
+  pub too-short : length kept < loaderSize → (s : Stream) → s ≡ streamOf blank → s ≡ streamIn kept
   unfolding streamIn
-  too-short h s e = e ∙ rw (lt-leb 3256 (length kept) h)
+  too-short h s e = e ∙ rw (lt-leb loaderSize (length kept) h)
 
-  module _ (h : 3256 ≤ length kept) (f : Stream) (fields : f ≡ fieldsIn kept) (b : Bool) (is : b ≡ sensible f) where
+  module _ (h : loaderSize ≤ length kept) (f : Stream) (fields : f ≡ fieldsIn kept) (b : Bool) (is : b ≡ sensible f) where
     pub holds-record : b ≡ true → f ≡ streamIn kept
     unfolding streamIn
-    holds-record e = fields ∙ rw (le-leb 3256 (length kept) h, ap sensible (sym fields) ∙ sym is ∙ e)
+    holds-record e = fields ∙ rw (le-leb loaderSize (length kept) h, ap sensible (sym fields) ∙ sym is ∙ e)
 
     pub holds-none : b ≡ false → (s : Stream) → s ≡ streamOf blank → s ≡ streamIn kept
     unfolding streamIn
-    holds-none e s es = es ∙ rw (le-leb 3256 (length kept) h, ap sensible (sym fields) ∙ sym is ∙ e)
+    holds-none e s es = es ∙ rw (le-leb loaderSize (length kept) h, ap sensible (sym fields) ∙ sym is ∙ e)
 
 -- ---- The premise of the loading calls
 
@@ -157,7 +158,7 @@ marked-last n false false h = (λ e. apart (sym e), λ e. apart (sym e))
 within-is : (l : LoopAt) (o : ℕ) → loopsWithin l o ≡ true → (n : ℕ) → l ≡ LoopAt.At n → n ≤ o
 within-is l o h n e = leb-true n o (rw e at h)
 
-sensible-good : (s : Stream) (kept : List ℕ) → sensible s ≡ true → Good (writerOf (tableIn kept 184 (s .count)) s)
+sensible-good : (s : Stream) (kept : List ℕ) → sensible s ≡ true → Good (writerOf (tableIn kept cuesAt (s .count)) s)
 unfolding sensible placesGood sumsGood
 sensible-good s kept h =
     let h₁ = both _ _ h in
@@ -173,7 +174,7 @@ sensible-good s kept h =
     let m = marked-last (s .blocks) (s .last) (s .finished) (h₃ .0) in
     record {
       small = leb-true _ _ (p₁ .0);
-      table = table-length kept 184 (s .count) (leb-true _ _ (p₃ .0));
+      table = table-length kept cuesAt (s .count) (leb-true _ _ (p₃ .0));
       few = leb-true _ _ (p₃ .0);
       placed = leb-true _ _ (p₄ .0);
       named = omega (arith, leb-true (s .id) (s .next + 1) (p₄ .1));
@@ -187,7 +188,7 @@ sensible-good s kept h =
       done = m .1;
     }
 
-blank-kept : (kept : List ℕ) → Good (writerOf (tableIn kept 184 0) (streamOf blank))
+blank-kept : (kept : List ℕ) → Good (writerOf (tableIn kept cuesAt 0) (streamOf blank))
 unfolding tableIn cuesFrom
 blank-kept kept = blank-good
 
@@ -195,11 +196,11 @@ blank-kept kept = blank-good
 pub kept-good : (kept : List ℕ) → Good (writerIn kept)
 unfolding streamIn
 kept-good kept =
-    by-cases (leb 3256 (length kept) and sensible (fieldsIn kept))
-    (λ q. rw q (sensible-good (fieldsIn kept) kept (both (leb 3256 (length kept)) (sensible (fieldsIn kept)) q .1)))
+    by-cases (leb loaderSize (length kept) and sensible (fieldsIn kept))
+    (λ q. rw q (sensible-good (fieldsIn kept) kept (both (leb loaderSize (length kept)) (sensible (fieldsIn kept)) q .1)))
     (λ q. rw q (blank-kept kept))
 
-pub stream-few : (kept : List ℕ) → streamIn kept .count ≤ 128
+pub stream-few : (kept : List ℕ) → streamIn kept .count ≤ cueLimit
 stream-few kept = kept-good kept .few
 
 -- ---- The table

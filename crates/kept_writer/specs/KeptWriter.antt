@@ -5,7 +5,7 @@ use mathlib.Core.List.{List}
 use lib.ListN.{length}
 use lib.Dec.{ltb, leb, eqb}
 use Rattle.layout.specs.Choice.{pick, _and_}
-use Rattle.layout.specs.Refusals.{blockLimit, slotLimit, cueLimit}
+use Rattle.layout.specs.Refusals.{blockLimit, slotLimit, cueLimit, lengthLimit}
 use Rattle.writer.specs.Loading.{byMode}
 use Rattle.writer.specs.Calls.{blank}
 use Rattle.writer.specs.declared.Looping.{Looping}
@@ -16,11 +16,7 @@ use Rattle.taking.specs.declared.Taken.{Taken}
 use Rattle.push_plan.specs.PushPlan.{streamOf, writerOf}
 use Rattle.push_plan.specs.declared.Stream.{Stream}
 use Rattle.kept_reader.specs.KeptReader.{wordAt, longAt}
-use Rattle.kept_sides.specs.KeptSides.{sideIn, tableIn}
-
--- The bytes of a record.
-abbrev pub loaderSize : ℕ
-loaderSize = 3256
+use Rattle.kept_sides.specs.KeptSides.{sideIn, tableIn, loaderSize, cuesAt, leftAt, rightAt}
 
 -- 0 Disabled, 1 Enabled, any other number Auto.
 unfoldable pub modeOf : ℕ → Looping
@@ -37,7 +33,7 @@ loopOf n = pick (eqb n nowhere) LoopAt.Nowhere (LoopAt.At n)
 -- The numbers of the record as they stand there.
 unfoldable pub fieldsIn : List ℕ → Stream
 fieldsIn kept =
-    record { slot = longAt kept 0; channels = longAt kept 8; mode = modeOf (wordAt kept 72); count = longAt kept 16; next = longAt kept 24; id = wordAt kept 76; base = longAt kept 32; offset = longAt kept 40; loopat = loopOf (longAt kept 64); blocks = longAt kept 48; sum = longAt kept 56; left = sideIn kept 88; right = sideIn kept 136; last = not (eqb (wordAt kept 80) 0); finished = not (eqb (wordAt kept 84) 0) }
+    record { slot = longAt kept 0; channels = longAt kept 8; mode = modeOf (wordAt kept 72); count = longAt kept 16; next = longAt kept 24; id = wordAt kept 76; base = longAt kept 32; offset = longAt kept 40; loopat = loopOf (longAt kept 64); blocks = longAt kept 48; sum = longAt kept 56; left = sideIn kept leftAt; right = sideIn kept rightAt; last = not (eqb (wordAt kept 80) 0); finished = not (eqb (wordAt kept 84) 0) }
 
 -- Whether the places in slot and table are within their limits.
 unfoldable pub placesGood : (slot offset count next id : ℕ) → Bool
@@ -45,7 +41,7 @@ placesGood slot offset count next id = leb slot slotLimit and (leb offset slot a
 
 -- Whether the sums can be those of so many blocks.
 unfoldable pub sumsGood : (blocks base sum : ℕ) → Bool
-sumsGood blocks base sum = leb blocks blockLimit and (leb base (131072 * blocks) and (leb sum (131072 * blocks) and leb (2 * blocks) sum))
+sumsGood blocks base sum = leb blocks blockLimit and (leb base (lengthLimit * blocks) and (leb sum (lengthLimit * blocks) and leb (2 * blocks) sum))
 
 -- Whether the marks can be those of so many blocks.
 unfoldable pub marksGood : (blocks : ℕ) (last finished : Bool) → Bool
@@ -70,14 +66,14 @@ streamIn kept = pick (leb loaderSize (length kept) and sensible (fieldsIn kept))
 
 -- The whole record: its table stands after the rest.
 abbrev pub writerIn : List ℕ → HpsWriter
-writerIn kept = writerOf (tableIn kept 184 (streamIn kept .count)) (streamIn kept)
+writerIn kept = writerOf (tableIn kept cuesAt (streamIn kept .count)) (streamIn kept)
 
 -- ---- Its table
 
 -- What a block takes of the table.
 abbrev pub takenIn : List ℕ → (from count end : ℕ) (last : Bool) → Taken
 takenIn kept from n end last =
-    tallied (from + takesTo (tableIn kept 184 n) from n end last) (takenTo (tableIn kept 184 n) from n end last)
+    tallied (from + takesTo (tableIn kept cuesAt n) from n end last) (takenTo (tableIn kept cuesAt n) from n end last)
 
 -- Whether the table has a Loop, as far as that counts: under Enabled, before there is a loop block.
 unfoldable pub heldIn : Looping → LoopAt → (held : Bool) → Bool

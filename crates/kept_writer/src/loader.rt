@@ -2,8 +2,29 @@
 use kept_reader::fields::long;
 use kept_reader::fields::word;
 use kept_sides::cues_in;
+use kept_sides::places::BASE_AT;
+use kept_sides::places::BLOCKS_AT;
+use kept_sides::places::CHANNELS_AT;
+use kept_sides::places::COUNT_AT;
+use kept_sides::places::CUES_AT;
+use kept_sides::places::FINISHED_AT;
+use kept_sides::places::ID_AT;
+use kept_sides::places::LAST_AT;
+use kept_sides::places::LEFT_AT;
+use kept_sides::places::LOADER_SIZE;
+use kept_sides::places::LOOP_AT;
+use kept_sides::places::MODE_AT;
+use kept_sides::places::NEXT_AT;
+use kept_sides::places::OFFSET_AT;
+use kept_sides::places::RIGHT_AT;
+use kept_sides::places::SLOT_AT;
+use kept_sides::places::SUM_AT;
 use kept_sides::side_in;
 use layout::FrameContext;
+use layout::limits::BLOCK_LIMIT;
+use layout::limits::CUE_LIMIT;
+use layout::limits::LENGTH_LIMIT;
+use layout::limits::SLOT_LIMIT;
 use push_plan::Stream;
 use taking::Taken;
 use taking::any_loop;
@@ -24,41 +45,8 @@ ghost use Rattle.writer.specs.Calls.{blank};
 ghost use Rattle.push_plan.specs.PushPlan.{streamOf};
 ghost use Rattle.kept_writer.specs.KeptWriter.{modeOf, loopOf, fieldsIn, placesGood, sumsGood, marksGood, loopsWithin, sensible, streamIn, writerIn, takenIn, heldIn};
 ghost use Rattle.taking.specs.Taking.{filledBytes, Taking};
-ghost use Rattle.kept_sides.specs.KeptSides.{tableIn};
-
-pub const LOADER_SIZE: usize = 3256;
-
-const SLOT_AT: usize = 0;
-
-const CHANNELS_AT: usize = 8;
-
-const COUNT_AT: usize = 16;
-
-const NEXT_AT: usize = 24;
-
-const BASE_AT: usize = 32;
-
-const OFFSET_AT: usize = 40;
-
-const BLOCKS_AT: usize = 48;
-
-const SUM_AT: usize = 56;
-
-const LOOP_AT: usize = 64;
-
-const MODE_AT: usize = 72;
-
-const ID_AT: usize = 76;
-
-const LAST_AT: usize = 80;
-
-const FINISHED_AT: usize = 84;
-
-const LEFT_AT: usize = 88;
-
-const RIGHT_AT: usize = 136;
-
-const CUES_AT: usize = 184;
+ghost use Rattle.kept_sides.specs.KeptSides.{tableIn, cuesAt};
+ghost use Rattle.layout.specs.Refusals.{cueLimit};
 
 // No block of the stream is the loop block.
 const NOWHERE: u64 = 0xFFFF_FFFF_FFFF_FFFF;
@@ -98,13 +86,13 @@ fn loops_within(at: LoopAt, offset: usize) -> bool
 fn places_good(slot: usize, offset: usize, count: usize, next: usize, id: u32) -> bool
     ensures { λ b. ⌜ b ≡ placesGood slot offset count next id ⌝ }
 {
-    if slot > 16777216 {
+    if slot > SLOT_LIMIT {
         return false;
     }
     if offset > slot {
         return false;
     }
-    if count > 128 {
+    if count > CUE_LIMIT {
         return false;
     }
     if next > count {
@@ -117,10 +105,10 @@ fn places_good(slot: usize, offset: usize, count: usize, next: usize, id: u32) -
 fn sums_good(blocks: usize, base: u64, sum: u64) -> bool
     ensures { λ b. ⌜ b ≡ sumsGood blocks base sum ⌝ }
 {
-    if blocks > 512 {
+    if blocks > BLOCK_LIMIT {
         return false;
     }
-    let most = 131072 * blocks as u64;
+    let most = LENGTH_LIMIT as u64 * blocks as u64;
     if base > most {
         return false;
     }
@@ -261,7 +249,7 @@ pub fn writer_in(kept: &[u8]) -> HpsWriter
 
 // The cues that a block takes of the table: where none is left the table is not looked into.
 pub fn take_kept(kept: &[u8], from: usize, count: usize, end: u64, last: bool) -> Taken
-    requires { ⌜ (from ≤ count) × (count ≤ 128) ⌝ }
+    requires { ⌜ (from ≤ count) × (count ≤ cueLimit) ⌝ }
     ensures { λ r. ⌜ r ≡ takenIn (now (kept .entry)) from count end last ⌝ }
 {
     if from == count {
@@ -277,8 +265,8 @@ pub fn take_kept(kept: &[u8], from: usize, count: usize, end: u64, last: bool) -
 
 // Whether the table has a Loop, as far as that counts: under Enabled, before there is a loop block.
 pub fn held_kept(kept: &[u8], mode: Looping, loopat: LoopAt, count: usize) -> bool
-    requires { ⌜ count ≤ 128 ⌝ }
-    ensures { λ b. ⌜ b ≡ heldIn mode loopat (anyLoop (slice 0 count (tableIn (now (kept .entry)) 184 count))) ⌝ }
+    requires { ⌜ count ≤ cueLimit ⌝ }
+    ensures { λ b. ⌜ b ≡ heldIn mode loopat (anyLoop (slice 0 count (tableIn (now (kept .entry)) cuesAt count))) ⌝ }
 {
     match loopat {
         LoopAt::At(_) => false,
@@ -305,10 +293,10 @@ pub fn put_taken_kept(
     id: u32,
     points: usize,
 )
-    requires { ⌜ (count ≤ 128) × (to ≤ 128) × (id + 128 < 2 ^ 32) ⌝ }
-    requires { ⌜ Taking (tableIn (now kept) 184 count) from to points ⌝ }
+    requires { ⌜ (count ≤ cueLimit) × (to ≤ cueLimit) × (id + cueLimit < 2 ^ 32) ⌝ }
+    requires { ⌜ Taking (tableIn (now kept) cuesAt count) from to points ⌝ }
     requires { ⌜ at + P (8 * points) ≤ length (now buf) ⌝ }
-    ensures { λ _. ⌜ now (buf .exit) ≡ putAt (now (buf .entry)) at (filledBytes base id (slice from to (tableIn (now (kept .entry)) 184 count))) ⌝ }
+    ensures { λ _. ⌜ now (buf .exit) ≡ putAt (now (buf .entry)) at (filledBytes base id (slice from to (tableIn (now (kept .entry)) cuesAt count))) ⌝ }
 {
     if points == 0 {
         return;

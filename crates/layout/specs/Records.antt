@@ -61,9 +61,13 @@ abbrev pub on : {A B : Type 0} → Read A → (ℕ → B) → (A → B) → B
 on (refused n) f g = f n
 on (value a) f g = g a
 
+-- "a multiple of 32"
+abbrev pub alignment : ℕ
+alignment = 32
+
 -- "P(n) is the least multiple of 32 not below n."
 unfoldable pub P : ℕ → ℕ
-P n = (n + 31) / 32 * 32
+P n = (n + (alignment - 1)) / alignment * alignment
 
 -- ---- Context
 
@@ -129,15 +133,31 @@ readMagic s =
 unfoldable pub fileHeaderBytes : (rate count : ℕ) → Channel → Channel → List ℕ
 fileHeaderBytes rate count l r = magic ++ (be32 rate ++ (be32 count ++ (channelBytes l ++ channelBytes r)))
 
+-- "File header, 128 bytes"
+abbrev pub fileHeaderSize : ℕ
+fileHeaderSize = 128
+
 -- "the first block at 128", "From 128 it reads block headers"
 abbrev pub firstBlockOffset : ℕ
-firstBlockOffset = 128
+firstBlockOffset = fileHeaderSize
 
 -- "next offset 4,294,967,295 ends with no loop"; "else 4,294,967,295"
 abbrev pub endBlockOffset : ℕ
 endBlockOffset = 4294967295
 
 -- ---- Block header
+
+-- "Block header, 32 bytes"
+abbrev pub blockHeaderSize : ℕ
+blockHeaderSize = 32
+
+-- "Then come cues of 8 bytes"
+abbrev pub cuePointSize : ℕ
+cuePointSize = 8
+
+-- What comes before a block's data: its header, and cues "filled up to a multiple of 4 cues".
+abbrev pub dataAfter : (cues : ℕ) → ℕ
+dataAfter n = blockHeaderSize + P (cuePointSize * n)
 
 -- "Block header, 32 bytes: u32 size, u32 end address, u32 next offset, two contexts each with 2 zero bytes after it, u8 cue count, 3 zero bytes."
 unfoldable pub headerBytes : BlockHeader → List ℕ
@@ -152,7 +172,7 @@ headerAt s at =
 
 -- "block headers with their filled cues": header and cues, "filled up to a multiple of 4 cues", lie in the slot
 unfoldable pub readHeader : List ℕ → ℕ → Read BlockHeader
-readHeader s at = field s (at + (32 + P (8 * getD s (at + 28) 0))) (headerAt s at)
+readHeader s at = field s (at + dataAfter (getD s (at + 28) 0)) (headerAt s at)
 
 -- "Then come cues of 8 bytes (i32 sample index, u32 id)"
 unfoldable pub cueBytes : CuePoint → List ℕ
@@ -168,7 +188,7 @@ filler = record { «sample_index» = negsuc 0; id = 0 }
 
 -- "filled up to a multiple of 4 cues"
 unfoldable pub fillers : ℕ → List CuePoint
-fillers n = replicate (P (8 * n) / 8 - n) filler
+fillers n = replicate (P (cuePointSize * n) / cuePointSize - n) filler
 
 -- "each channel's data, padded with zeros to a multiple of 32"
 unfoldable pub padded : List ℕ → List ℕ

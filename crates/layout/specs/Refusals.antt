@@ -1,5 +1,5 @@
 -- Refused because of the input, refused because of the state (document 01): the first number due in an order, and the limits by name.
-use Prim.Native.Nat.{ℕ}
+use Prim.Native.Nat.{ℕ, _*_}
 use mathlib.Core.Bool.{Bool, not}
 use mathlib.Core.List.{List, [], _∷_}
 use lib.Dec.{ltb, eqb}
@@ -46,9 +46,21 @@ startLimit = 2147483647
 abbrev pub tooShort : (length : ℕ) → Bool
 tooShort n = ltb n 2
 
--- "65,536 bytes (mono) or 32,768 per channel (stereo)"
+-- "65,536 bytes (mono)"
+abbrev pub monoLimit : ℕ
+monoLimit = 65536
+
+-- "or 32,768 per channel (stereo)"
+abbrev pub stereoLimit : ℕ
+stereoLimit = 32768
+
+-- How many bytes of a channel a block may have.
 abbrev pub sizeLimit : (channels : ℕ) → ℕ
-sizeLimit ch = pick (eqb ch 2) 32768 65536
+sizeLimit ch = pick (eqb ch 2) stereoLimit monoLimit
+
+-- The longest block: two addresses for each byte.
+abbrev pub lengthLimit : ℕ
+lengthLimit = 2 * monoLimit
 
 -- "13 over .. bytes": by the length, since 13 comes before 11
 abbrev pub tooLarge : (channels length : ℕ) → Bool
@@ -59,3 +71,9 @@ tooLarge ch n = ltb (sizeLimit ch) (adpcmBytes n)
 -- "20 table holds 128 cues"
 abbrev pub cueLimit : ℕ
 cueLimit = 128
+
+-- ---- The marking key
+
+-- "Program `key` reads a slot of at most 65,536 bytes .., else 7."
+abbrev pub keyLimit : ℕ
+keyLimit = 65536

@@ -20,6 +20,7 @@ use Rattle.lines.specs.Lines.{stopLine, headLine, blockLine, loopLine, cueLine}
 use Rattle.lines.proofs.ColumnLaws.{stop-length, head-length, block-length, loop-length, cue-length}
 use Rattle.listing.specs.MarkingKey.{onCue, cueCalls, cueLines, blockLines, openedLines, linesFrom}
 use Rattle.listing.specs.Filling.{linesFitting, linesBeyond, lineFitting, linesAfter}
+use Rattle.layout.specs.Refusals.{blockLimit}
 
 module _ (s : List ℕ) (r : HpsReader) where
   pub stop-rest : (n : ℕ) → linesFrom s r (Stage.Stop n) ≡ stopLine n ∷ linesFrom s r Stage.Done
@@ -36,7 +37,7 @@ module _ (s : List ℕ) (r : HpsReader) where
 
   -- ---- Blocks
 
-  module _ (long : length (r .offsets) ≡ 512) (fit : r .blocks ≤ 512) (i : ℕ) where
+  module _ (long : length (r .offsets) ≡ blockLimit) (fit : r .blocks ≤ blockLimit) (i : ℕ) where
     blocks-long : length (take (r .blocks) (r .offsets)) ≡ r .blocks
     blocks-long = let l : r .blocks ≤ length (r .offsets) = omega arith in length-take-le (r .blocks) (r .offsets) l
 

@@ -11,10 +11,7 @@ use Rattle.reader.specs.declared.HpsReader.{HpsReader}
 use Rattle.reader.specs.declared.CueIterator.{CueIterator}
 use Rattle.listing.specs.declared.Stage.{Stage}
 use Rattle.lines.specs.Lines.{stopLine, headLine, blockLine, loopLine, cueLine}
-
--- "reads a slot of at most 65,536 bytes from standard input, else 7"
-abbrev pub keyLimit : ℕ
-keyLimit = 65536
+use Rattle.layout.specs.Refusals.{keyLimit}
 
 -- A cue call's line and what follows it; nothing follows the end.
 abbrev pub onCue : CueAnswer → (rest : List (List ℕ)) → List (List ℕ)

@@ -19,7 +19,6 @@ ghost use Rattle.reader.specs.OpeningAndReading.{Readable};
 ghost use Rattle.listing.specs.Filling.{LineIs, FilledIs};
 
 // The longest slot that is listed.
-pub const KEY_LIMIT: usize = 65536;
 
 // As many cue calls as an opened slot can need: 512 blocks of 255 cues, the Loop and the end.
 const CUE_CALLS: usize = 130562;

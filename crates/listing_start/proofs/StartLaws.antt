@@ -12,6 +12,7 @@ use borrow.Author.Tests.{lt-ltb, le-ltb}
 use Rattle.reader.specs.declared.HpsReader.{HpsReader}
 use Rattle.listing.specs.declared.Stage.{Stage}
 use Rattle.listing.specs.MarkingKey.{listingLines, linesFrom}
+use Rattle.layout.specs.Refusals.{keyLimit}
 
 refused-back : (o : Opened) (n : ℕ) → openCall o .reply ≡ OpenReply.Refused n → o ≡ Opened.refused n
 refused-back (Opened.refused m) n e = let x : m ≡ n = cc in ap Opened.refused x
@@ -32,14 +33,14 @@ module _ (s : List ℕ) (q : OpenCall) (e : q ≡ openCall (opening s)) where
 -- ---- Where the listing starts
 
 module _ (s : List ℕ) (r : HpsReader) where
-  pub start-long : 65536 < length s → linesFrom s r (Stage.Stop 7) ≡ listingLines s
+  pub start-long : keyLimit < length s → linesFrom s r (Stage.Stop 7) ≡ listingLines s
   unfolding linesFrom listingLines
-  start-long h = rw (lt-ltb 65536 (length s) h)
+  start-long h = rw (lt-ltb keyLimit (length s) h)
 
-  pub start-refused : length s ≤ 65536 → (n : ℕ) → opening s ≡ Opened.refused n → linesFrom s r (Stage.Stop n) ≡ listingLines s
+  pub start-refused : length s ≤ keyLimit → (n : ℕ) → opening s ≡ Opened.refused n → linesFrom s r (Stage.Stop n) ≡ listingLines s
   unfolding linesFrom listingLines
-  start-refused h n e = rw (le-ltb 65536 (length s) h) (rw e)
+  start-refused h n e = rw (le-ltb keyLimit (length s) h) (rw e)
 
-  pub start-opened : length s ≤ 65536 → opening s ≡ Opened.opened r → linesFrom s r Stage.Head ≡ listingLines s
+  pub start-opened : length s ≤ keyLimit → opening s ≡ Opened.opened r → linesFrom s r Stage.Head ≡ listingLines s
   unfolding linesFrom listingLines
-  start-opened h e = rw (le-ltb 65536 (length s) h) (rw e)
+  start-opened h e = rw (le-ltb keyLimit (length s) h) (rw e)

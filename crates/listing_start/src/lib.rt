@@ -1,6 +1,6 @@
 // The listing of a slot from its start.
+use layout::limits::KEY_LIMIT;
 use listing::Stage;
-use listing::listing::KEY_LIMIT;
 use opening::open;
 use reader::HpsReader;
 use reader::answers::OpenReply;

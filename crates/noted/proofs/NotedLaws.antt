@@ -12,7 +12,7 @@ use Rattle.layout.specs.Lists.{sum, put}
 use Rattle.layout.specs.Puts.{putAt}
 use Rattle.layout.proofs.FieldLaws.{failed}
 use Rattle.puts.proofs.PutLaws.{putAt-in, putAt-length, putAt-none, putAt-next}
-use Rattle.writer.specs.WritesAndCuttingRule.{Write, write, handed, writesIn}
+use Rattle.writer.specs.WritesAndCuttingRule.{Write, write, handed, writesIn, mostWrites}
 use Rattle.writer.specs.Calls.{noPlace, whereAccepted}
 use Rattle.writer.specs.declared.Reply.{Reply}
 use Rattle.writer.specs.declared.Reply.the-variants.{Refused, Accepted}
@@ -63,9 +63,9 @@ handed-join (v ∷ vs) ws = rw (handed-join vs ws, append-assoc)
 
 pub none-listed : (kept : List ℕ) → Listed noneNoted kept
 unfolding sizes sum
-none-listed kept = record { few = omega arith; room = length-replicate 516 noPlace; bytes = refl; inside = omega arith }
+none-listed kept = record { few = omega arith; room = length-replicate mostWrites noPlace; bytes = refl; inside = omega arith }
 
-module _ {j : Noted} {kept : List ℕ} (l : Listed j kept) (p : Place) (bs : List ℕ) (few : j .count < 516) (size : length bs ≡ p .length) (room : j .total + p .length ≤ length kept) where
+module _ {j : Noted} {kept : List ℕ} (l : Listed j kept) (p : Place) (bs : List ℕ) (few : j .count < mostWrites) (size : length bs ≡ p .length) (room : j .total + p .length ≤ length kept) where
   former : List Place
   former = take (j .count) (j .places)
 
@@ -121,7 +121,7 @@ module _ {j : Noted} {kept : List ℕ} (l : Listed j kept) (p : Place) (bs : Lis
       }
 
 -- The bytes of a lent buffer from a place on.
-module _ {j : Noted} {kept : List ℕ} (l : Listed j kept) (p : Place) (lent : List ℕ) (from : ℕ) {b : List ℕ} (few : j .count < 516) (here : from + p .length ≤ length lent) (room : j .total + p .length ≤ length kept) (e : b ≡ putAt kept (j .total) (take (from + p .length - from) (drop from lent))) where
+module _ {j : Noted} {kept : List ℕ} (l : Listed j kept) (p : Place) (lent : List ℕ) (from : ℕ) {b : List ℕ} (few : j .count < mostWrites) (here : from + p .length ≤ length lent) (room : j .total + p .length ≤ length kept) (e : b ≡ putAt kept (j .total) (take (from + p .length - from) (drop from lent))) where
   part-length : length (take (p .length) (drop from lent)) ≡ p .length
   part-length = length-take-le (p .length) (drop from lent) (omega (arith, length-drop from lent))
 

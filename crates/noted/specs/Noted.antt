@@ -5,14 +5,14 @@ use mathlib.Core.List.{List, _++_}
 use lib.ListN.{length, take, replicate}
 use Rattle.layout.specs.Lists.{sum}
 use Rattle.layout.specs.Puts.{putAt}
-use Rattle.writer.specs.WritesAndCuttingRule.{Write, handed, writesIn}
+use Rattle.writer.specs.WritesAndCuttingRule.{Write, handed, writesIn, mostWrites}
 use Rattle.writer.specs.Calls.{noPlace}
 use Rattle.writer.specs.declared.Place.{Place}
 use Rattle.noted.specs.declared.Noted.{Noted}
 
 -- No write.
 abbrev pub noneNoted : Noted
-noneNoted = record { count = 0; total = 0; places = replicate 516 noPlace }
+noneNoted = record { count = 0; total = 0; places = replicate mostWrites noPlace }
 
 -- The writes: "a write's bytes are those that its call handed out".
 unfoldable pub notedIn : Noted → (kept : List ℕ) → List Write
@@ -24,14 +24,14 @@ sizes ps = sum (λ p. p .length) ps
 
 -- No more are noted than there is room for, and the bytes of all are there.
 pub record Listed (j : Noted) (kept : List ℕ) : Type 0 where
-  pub few : j .count ≤ 516
-  pub room : length (j .places) ≡ 516
+  pub few : j .count ≤ mostWrites
+  pub room : length (j .places) ≡ mostWrites
   pub bytes : j .total ≡ sizes (take (j .count) (j .places))
   pub inside : j .total ≤ length kept
 
 -- Room for writes more, whose bytes lie in a lent buffer from its start.
 pub record Room (j : Noted) (kept lent : List ℕ) (ps : List Place) : Type 0 where
-  pub few : j .count + length ps ≤ 516
+  pub few : j .count + length ps ≤ mostWrites
   pub handed : sizes ps ≤ length lent
   pub space : j .total + sizes ps ≤ length kept
 

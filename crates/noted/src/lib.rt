@@ -1,6 +1,7 @@
 // Writes noted for later: their places, and their bytes one after the other.
 use layout::fields::inside;
 use puts::put_bytes;
+use writer::MOST_WRITES;
 use writer::Place;
 use writer::Reply;
 ghost use mathlib.Core.Path.{_≡_};
@@ -10,11 +11,11 @@ ghost use lib.ListN.{length, drop};
 ghost use Rattle.writer.specs.Calls.{whereAccepted};
 ghost use Rattle.noted.specs.Noted.{noneNoted, Listed, Room, Notes};
 
-// As many writes as a loading hands out: begin's, 512 blocks, finish's three.
+// As many writes as a loading hands out.
 pub struct Noted {
     pub count: usize,
     pub total: usize,
-    pub places: [Place; 516],
+    pub places: [Place; MOST_WRITES],
 }
 
 pub fn none() -> Noted
@@ -27,7 +28,7 @@ pub fn none() -> Noted
     Noted {
         count: 0,
         total: 0,
-        places: [nowhere; 516],
+        places: [nowhere; MOST_WRITES],
     }
 }
 
@@ -40,7 +41,7 @@ fn note(j: Noted, place: Place, lent: &[u8], from: usize, kept: &mut [u8]) -> No
     let i = j.count;
     let at = j.total;
     let n = place.length;
-    if i < 516 {
+    if i < MOST_WRITES {
         if inside(lent.len(), from, n) {
             if inside(kept.len(), at, n) {
                 let end = from + n;

@@ -9,7 +9,7 @@ use lib.Dec.{eqb}
 use borrow.Author.Tests.{ltb-false, leb-false, eqb-true}
 use Rattle.layout.specs.Lists.{sum}
 use Rattle.layout.proofs.Cases.{by-cases, apart}
-use Rattle.writer.specs.WritesAndCuttingRule.{Write, write, placeOf, handed, writesIn}
+use Rattle.writer.specs.WritesAndCuttingRule.{Write, write, placeOf, handed, writesIn, mostWrites}
 use Rattle.writer.specs.Loading.{Push, refused, accepted, beginRefusal, beginWrites, pushRefusal, finishRefusal, blockSize, headerWrites}
 use Rattle.writer.specs.Calls.{outcome, writes, called, finished, handedOut, whereAccepted, blank, emptyOf, beginOf, takenOf, standingIn, nextFor, endFor, pushBytes, afterPush, pushOf, headerOf, afterFinish, finishOf, Good}
 use Rattle.writer.specs.declared.Place.{Place}
@@ -24,6 +24,8 @@ use Rattle.noted.specs.Noted.{sizes, notedIn, noneNoted, Listed, Room, Notes}
 use Rattle.noted.specs.declared.Noted.{Noted}
 use Rattle.noted.proofs.NotedLaws.{none-listed, notes-long}
 use Rattle.noted_calls.specs.NotedCalls.{lentOf, Tally, MadeBy, Begun}
+use Rattle.layout.specs.Refusals.{blockLimit, keyLimit}
+use Rattle.layout.specs.Records.{fileHeaderSize}
 
 -- The writes that are handed out lie in the lent buffer.
 sizes-are : (ws : List Write) → sizes (map placeOf ws) ≡ length (handed ws)
@@ -37,7 +39,7 @@ unfolding sizes sum
 none-room l = record { few = omega (arith, l .few); handed = omega arith; space = omega (arith, l .inside) }
 
 -- These writes, where there is room for so many.
-some-room : {j : Noted} {kept : List ℕ} (lent : List ℕ) (ws : List Write) → j .count + length ws ≤ 516 → j .total + length (handed ws) ≤ length kept → Room j kept (handed ws ++ drop (length (handed ws)) lent) (map placeOf ws)
+some-room : {j : Noted} {kept : List ℕ} (lent : List ℕ) (ws : List Write) → j .count + length ws ≤ mostWrites → j .total + length (handed ws) ≤ length kept → Room j kept (handed ws ++ drop (length (handed ws)) lent) (map placeOf ws)
 some-room lent ws few space =
     let n = sizes-are ws in
     record {
@@ -51,14 +53,14 @@ some-room lent ws few space =
 module _ (n : ℕ) (w : HpsWriter) (lent : List ℕ) (next : HpsWriter) (m : ℕ) (ws : List Write) (j : Noted) (kept : List ℕ) where
   -- What an accepted call must leave room for.
   abbrev Fits : Type 0
-  Fits = eqb n 0 ≡ true → (j .count + length ws ≤ 516) × (j .total + length (handed ws) ≤ length kept)
+  Fits = eqb n 0 ≡ true → (j .count + length ws ≤ mostWrites) × (j .total + length (handed ws) ≤ length kept)
 
   room-for : Listed j kept → Fits → Room j kept (outcome n w lent next m ws .lent) (outcome n w lent next m ws .places)
   room-for l h = by-cases (eqb n 0) (λ q. rw q (some-room lent ws (h q .0) (h q .1))) (λ q. rw q (none-room l))
 
   -- What it must leave counted.
   abbrev Counts : Type 0
-  Counts = eqb n 0 ≡ true → (next .slot ≤ 65536) × (next .finished ≡ false → (j .count + length ws ≡ suc (next .blocks)) × (j .total + length (handed ws) + 127 ≡ next .offset))
+  Counts = eqb n 0 ≡ true → (next .slot ≤ keyLimit) × (next .finished ≡ false → (j .count + length ws ≡ suc (next .blocks)) × (j .total + length (handed ws) + 127 ≡ next .offset))
 
   tally-after : {q : Noted} {after : List ℕ} → Tally j w kept → Counts → Notes j kept (outcome n w lent next m ws .lent) (outcome n w lent next m ws .places) q after → Tally q (outcome n w lent next m ws .writer) after
   unfolding sizes sum
@@ -116,7 +118,7 @@ module _ (w : HpsWriter) (p : Push) (lent : List ℕ) {j : Noted} {kept : List �
   push-fits q =
       let f = passed _ _ _ _ _ _ _ _ _ _ _ _ _ (eqb-true _ 0 q) in
       let fit = ltb-false (w .slot) (w .offset + blockSize (takenOf w p) p) (f .no24) in
-      let many = leb-false 512 (w .blocks) (f .no25) in
+      let many = leb-false blockLimit (w .blocks) (f .no25) in
       let u = unfinished q in
       (omega (arith, t .many u), omega (arith, t .bytes u, t .small, t .room, size))
 
@@ -152,7 +154,7 @@ module _ (w : HpsWriter) (lent : List ℕ) {j : Noted} {kept : List ℕ} (g : Go
   header : List Write
   header = headerWrites (headerOf w)
 
-  header-size : length (handed header) ≤ 128
+  header-size : length (handed header) ≤ fileHeaderSize
   unfolding handed header
   header-size =
       let h = headerOf w in
@@ -240,9 +242,9 @@ take-zeros zero m h = refl
 take-zeros (suc k) zero h = absurd (omega arith)
 take-zeros (suc k) (suc m) h = ap (λ (bs : List ℕ). 0 ∷ bs) (take-zeros k m (omega arith))
 
-module _ (size : ℕ) {r : ℕ} {z : List ℕ} (zeros : z ≡ replicate 65536 0) (least : r ≡ min size 65536) where
+module _ (size : ℕ) {r : ℕ} {z : List ℕ} (zeros : z ≡ replicate keyLimit 0) (least : r ≡ min size keyLimit) where
   pub lent-is : take r z ≡ lentOf size
-  lent-is = rw zeros (take-zeros r 65536 (omega arith) ∙ rw least)
+  lent-is = rw zeros (take-zeros r keyLimit (omega arith) ∙ rw least)
 
   pub lent-length : r ≡ length (take r z)
-  lent-length = rw lent-is (least ∙ sym (length-replicate (min size 65536) 0))
+  lent-length = rw lent-is (least ∙ sym (length-replicate (min size keyLimit) 0))

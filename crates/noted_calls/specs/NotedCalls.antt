@@ -4,6 +4,7 @@ use mathlib.Core.Path.{_≡_}
 use mathlib.Core.Bool.{false}
 use mathlib.Core.List.{List, _++_}
 use lib.ListN.{length, replicate}
+use Rattle.layout.specs.Records.{fileHeaderSize}
 use Rattle.layout.specs.Puts.{putAt}
 use Rattle.writer.specs.WritesAndCuttingRule.{handed}
 use Rattle.writer.specs.Loading.{accepted}
@@ -12,21 +13,25 @@ use Rattle.writer.specs.declared.HpsWriter.{HpsWriter}
 use Rattle.noted.specs.Noted.{notedIn, Listed}
 use Rattle.noted.specs.declared.Noted.{Noted}
 use Rattle.noted_calls.specs.declared.Made.{Made}
+use Rattle.layout.specs.Refusals.{keyLimit}
 
 -- "(the length of the lent buffer for the calls after it; long enough for any call unless set)": 65,536 bytes are long enough for a slot of as many
 abbrev pub longLent : ℕ
-longLent = 65536
+longLent = keyLimit
+
+-- Room for the bytes of all writes of a loading: a slot's, and a header's for begin's byte.
+abbrev pub logSize : ℕ
+logSize = keyLimit + fileHeaderSize
 
 -- The lent buffer of a call.
 abbrev pub lentOf : (length : ℕ) → List ℕ
 lentOf n = replicate (min n longLent) 0
 
--- What is noted by the writer's record: before the finish begin's write and each block's, so that there is room for all that may come: 516 writes, of 65,664
--- bytes at most.
+-- What is noted by the writer's record: before the finish begin's write and each block's, so that there is room for all that may come.
 pub record Tally (j : Noted) (w : HpsWriter) (kept : List ℕ) : Type 0 where
   pub listed : Listed j kept
-  pub room : 65664 ≤ length kept
-  pub small : w .slot ≤ 65536
+  pub room : logSize ≤ length kept
+  pub small : w .slot ≤ keyLimit
   pub many : w .finished ≡ false → j .count ≡ suc (w .blocks)
   pub bytes : w .finished ≡ false → j .total + 127 ≡ w .offset
 
@@ -44,6 +49,6 @@ pub record Begun (slot : ℕ) (o : Outcome) (kept : List ℕ) (m : Made) (after 
   pub writer : m .writer ≡ o .writer
   pub reply : m .reply ≡ replyOf (o .answer)
   pub good : Good (m .writer)
-  pub tally : 65664 ≤ length kept → slot ≤ 65536 → o .answer ≡ accepted 0 → Tally (m .noted) (m .writer) after
+  pub tally : logSize ≤ length kept → slot ≤ keyLimit → o .answer ≡ accepted 0 → Tally (m .noted) (m .writer) after
   pub is : 1 ≤ length kept → notedIn (m .noted) after ≡ writes o
   pub put : 1 ≤ length kept → after ≡ putAt kept 0 (handed (writes o))

@@ -1,6 +1,7 @@
 // Loading calls whose writes are noted: each gets a lent buffer of zeros of its own.
 use block_writer::push::push;
 use header_writer::finish::finish;
+use layout::limits::KEY_LIMIT;
 use noted::Noted;
 use noted::none;
 use noted::note_one;
@@ -16,9 +17,10 @@ ghost use lib.ListN.{length, replicate};
 ghost use Rattle.push_due.specs.PushDue.{pushArgs};
 ghost use Rattle.writer.specs.Calls.{Good, beginOf, pushOf, finishOf};
 ghost use Rattle.noted_calls.specs.NotedCalls.{lentOf, Tally, MadeBy, Begun};
+ghost use Rattle.layout.specs.Refusals.{keyLimit};
 
 // The longest lent buffer: a block for a slot of 65,536 bytes gets 24 before it needs more.
-pub const LENT: usize = 65536;
+pub const LENT: usize = KEY_LIMIT;
 
 // What a call leaves: the record, the reply, and the writes with its own.
 pub struct Made {
@@ -28,7 +30,7 @@ pub struct Made {
 }
 
 fn zeros() -> [u8; LENT]
-    ensures { λ r. ⌜ r ≡ replicate 65536 0 ⌝ }
+    ensures { λ r. ⌜ r ≡ replicate keyLimit 0 ⌝ }
 {
     [0; LENT]
 }

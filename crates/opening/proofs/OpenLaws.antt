@@ -7,7 +7,7 @@ use native.Mathlib.Omega.{arith}
 use lib.ListN.{length, drop, replicate}
 use borrow.Author.Tests.{lt-ltb, le-ltb}
 use Rattle.layout.specs.Choice.{pick}
-use Rattle.layout.specs.Records.{u32At, Read, field, on, readChannel, noChannel, magic, readMagic}
+use Rattle.layout.specs.Records.{u32At, Read, field, on, readChannel, noChannel, magic, readMagic, firstBlockOffset}
 use Rattle.layout.specs.Refusals.{wrongCount, blockLimit, slotLimit}
 use Rattle.layout.specs.Answers.{refusalOf, magicSays}
 use Rattle.layout.specs.declared.Channel.{Channel}
@@ -26,7 +26,7 @@ use Rattle.reader.specs.ReaderAnswers.{openCall, walkReply, walkOf, walkedOver,
 
 module _ (s : List ℕ) where
   abbrev pub atWalk : (rate count : ℕ) → Channel → Channel → Opened
-  atWalk rate count l r = onWalk (walkFrom 512 s [] 128) (λ os start. Opened.opened (made rate count l r os start))
+  atWalk rate count l r = onWalk (walkFrom blockLimit s [] firstBlockOffset) (λ os start. Opened.opened (made rate count l r os start))
 
   abbrev pub atRight : (rate count : ℕ) → Channel → Opened
   atRight rate count l = on (readChannel s 72) Opened.refused (λ r. atWalk rate count l r)
@@ -101,12 +101,12 @@ zeros-beyond : (os : List ℕ) (n : ℕ) → os ++ drop (length os) (replicate n
 zeros-beyond os n = ap (λ (l : List ℕ). os ++ l) (drop-zeros (length os) n)
 
 module _ (rate count : ℕ) (l r : Channel) where
-  walk-ends : (x : Walked) {w : Walk} {os : List ℕ} → w ≡ walkOf x → os ≡ walkedOver (replicate 512 0) x → (start : LoopStart) → w .reply ≡ walkReply start
+  walk-ends : (x : Walked) {w : Walk} {os : List ℕ} → w ≡ walkOf x → os ≡ walkedOver (replicate blockLimit 0) x → (start : LoopStart) → w .reply ≡ walkReply start
       → onWalk x (λ os start. Opened.opened (made rate count l r os start))
       ≡ Opened.opened (record { rate = rate; count = count; channels = inUse count l r; blocks = w .count; offsets = os; «loop_start» = start })
   unfolding made walkedOver
   walk-ends (refused n) {w} e d start f = absurd (no-reply n start (sym (ap (λ (x : Walk). x .reply) e) ∙ f))
-  walk-ends (walked os b) {w} e d start f = rw (e, d, zeros-beyond os 512, same-reply b start (sym (ap (λ (x : Walk). x .reply) e) ∙ f))
+  walk-ends (walked os b) {w} e d start f = rw (e, d, zeros-beyond os blockLimit, same-reply b start (sym (ap (λ (x : Walk). x .reply) e) ∙ f))
 
   walk-refused : (x : Walked) {w : Walk} → w ≡ walkOf x → (n : ℕ) → w .reply ≡ WalkReply.Refused n
       → onWalk x (λ os start. Opened.opened (made rate count l r os start)) ≡ Opened.refused n
@@ -116,11 +116,11 @@ module _ (rate count : ℕ) (l r : Channel) where
 -- ---- The record
 
 module _ (s : List ℕ) (rate count : ℕ) (l r : Channel) (e : opening s ≡ atWalk s rate count l r) {w : Walk} {os : List ℕ}
-    (f : (w ≡ walkOf (walkFrom 512 s [] 128)) × (os ≡ walkedOver (replicate 512 0) (walkFrom 512 s [] 128))) where
+    (f : (w ≡ walkOf (walkFrom blockLimit s [] firstBlockOffset)) × (os ≡ walkedOver (replicate blockLimit 0) (walkFrom blockLimit s [] firstBlockOffset))) where
   pub opens-to : {cs : List Channel} → cs ≡ inUse count l r → (start : LoopStart) → w .reply ≡ walkReply start
       → _≡_ {A = OpenCall} (record { reply = OpenReply.Opened; reader = record { rate = rate; count = count; channels = cs; blocks = w .count; offsets = os; «loop_start» = start } })
       (openCall (opening s))
-  opens-to g start h = rw (e ∙ walk-ends rate count l r (walkFrom 512 s [] 128) (f .0) (f .1) start h) (rw g)
+  opens-to g start h = rw (e ∙ walk-ends rate count l r (walkFrom blockLimit s [] firstBlockOffset) (f .0) (f .1) start h) (rw g)
 
   pub walk-stops : (n : ℕ) → w .reply ≡ WalkReply.Refused n → opening s ≡ Opened.refused n
-  walk-stops n h = e ∙ walk-refused rate count l r (walkFrom 512 s [] 128) (f .0) n h
+  walk-stops n h = e ∙ walk-refused rate count l r (walkFrom blockLimit s [] firstBlockOffset) (f .0) n h

@@ -10,7 +10,7 @@ use lib.Dec.{eqb, ltb}
 use lib.Seq.{drop-append-seam, getD-append-seam, getD-append-add, getD-drop}
 use borrow.Author.Tests.{eqb-true, eqb-false, ltb-true, ltb-false, le-leb, lt-leb, le-ltb}
 use Rattle.layout.specs.Lists.{All, more}
-use Rattle.layout.specs.Refusals.{firstDue}
+use Rattle.layout.specs.Refusals.{firstDue, slotLimit, slotLeast}
 use Rattle.layout.proofs.Cases.{by-cases}
 use Rattle.reader.specs.CuesReadBack.{CueAnswer}
 use Rattle.writer.specs.Loading.{Call, Answer, accepted, refused, answerBy}
@@ -128,8 +128,8 @@ module _ (theorem : PowerCut) where
   pub begins : Begins
   unfolding Begins PowerCut firstDue
   begins earlier s least most mode lent b one =
-      let few = le-ltb 16777216 (length earlier) most in
-      let wide = le-ltb (length earlier) 192 least in
+      let few = le-ltb slotLimit (length earlier) most in
+      let wide = le-ltb (length earlier) slotLeast least in
       let room = le-ltb (length lent) 1 one in
       (theorem earlier s 1 (omega arith) mode lent b .0 ∙ rw (few, wide, room), theorem earlier s 2 (omega arith) mode lent b .0 ∙ rw (few, wide, room))
 

@@ -9,7 +9,7 @@ use borrow.Author.Tests.{le-ltb, eq-eqb, ne-eqb}
 use lib.ListN.{length, length-map}
 use Rattle.layout.specs.Lists.{sum}
 use Rattle.layout.specs.Records.{P, sizeOf, adpcmBytes}
-use Rattle.layout.specs.Refusals.{firstDue, wrongCount}
+use Rattle.layout.specs.Refusals.{firstDue, wrongCount, blockLimit}
 use Rattle.writer.specs.Loading.{accepted, lengthOf, points, dataOf}
 use Rattle.writer.specs.Estimate.{lengthsDue, estimateRefusal, estimated, estimateOf}
 use Rattle.power_cut.specs.LoadingBook.{Block, Book, endOf, endOfBlocks}
@@ -35,7 +35,7 @@ unfolding estimateRefusal firstDue
 passes b h =
     let n = length-map (b .blocks) (λ k. lengthOf (k .push)) in
     let many = h .many in
-    rw (right-count (b .channels) (h .channels)) (rw (le-ltb 512 (length (lengths (b .blocks))) (omega arith)) (none-due (h .chained)))
+    rw (right-count (b .channels) (h .channels)) (rw (le-ltb blockLimit (length (lengths (b .blocks))) (omega arith)) (none-due (h .chained)))
 
 -- ---- The bound
 

@@ -9,7 +9,7 @@ use lib.ListN.{length, take, drop, replicate, length-append, length-take}
 use lib.Seq.{take-append-le, take-take, take-at}
 use Rattle.layout.specs.Lists.{All, same, put}
 use Rattle.layout.specs.Types.{Bytes}
-use Rattle.layout.specs.Records.{magic, fileHeaderBytes}
+use Rattle.layout.specs.Records.{magic, fileHeaderBytes, fileHeaderSize}
 use Rattle.layout.proofs.Cases.{by-cases}
 use Rattle.reader.proofs.RefusalLaws.{refusal}
 use Rattle.writer.specs.WritesAndCuttingRule.{Write, write, CutLeaves, torn, old, new, took}
@@ -40,14 +40,14 @@ torn-starts s vs eight l =
     let g : List ℕ = eight ++ replicate 7 0 in
     take-append-le 8 g (drop (0 + length g) (carriedAll s vs)) (omega (arith, length-append eight (replicate 7 0))) ∙ take-at eight (replicate 7 0) 8 l
 
-module _ (h : List ℕ) (lh : length h ≡ 128) where
+module _ (h : List ℕ) (lh : length h ≡ fileHeaderSize) where
   -- the first has taken: a cut of the other two
-  header-cut : {s t : List ℕ} {k : ℕ} → 128 ≤ length s → CutLeaves s (headerWrites h) k t → 0 < k → take 8 t ≡ take 8 h
+  header-cut : {s t : List ℕ} {k : ℕ} → fileHeaderSize ≤ length s → CutLeaves s (headerWrites h) k t → 0 < k → take 8 t ≡ take 8 h
   header-cut wide (torn g b e l) q = absurd (omega arith)
   header-cut wide (old e) q = absurd (omega arith)
   header-cut wide (new e) q = absurd (omega (arith, length-take 15 h))
   header-cut {s} wide (took l) q =
-      let w : 128 ≤ length (put s 0 (take 15 h)) = omega (arith, put-length s 0 (take 15 h) (omega (arith, length-take 15 h))) in
+      let w : fileHeaderSize ≤ length (put s 0 (take 15 h)) = omega (arith, put-length s 0 (take 15 h) (omega (arith, length-take 15 h))) in
       let two = away-part 0 15 (omega arith) (omega arith) _ (header-second h w 0) in
       alike-take 8 (away-cut refl (All.more two (All.more (header-third h w) All.none)) l) (omega arith)
       ∙ take-append-le 8 (take 15 h) (drop (0 + length (take 15 h)) s) (omega (arith, length-take 15 h)) ∙ take-take 8 15 h (omega arith)
@@ -58,7 +58,7 @@ module _ (h : List ℕ) (lh : length h ≡ 128) where
     header-ahead (within l) q = alike-take 8 (away-cut refl away l) (omega arith)
     header-ahead (beyond m e l) q = absurd (omega arith)
 
-    header-taken : {t : List ℕ} {k : ℕ} → 128 ≤ length s → Split s vs (headerWrites h) k t → length vs < k → take 8 t ≡ take 8 h
+    header-taken : {t : List ℕ} {k : ℕ} → fileHeaderSize ≤ length s → Split s vs (headerWrites h) k t → length vs < k → take 8 t ≡ take 8 h
     header-taken wide (within l) q = absurd (omega (arith, taken-few l))
     header-taken wide (beyond m e l) q = header-cut (omega (arith, away-cut refl away (cut-all s vs) .long)) l (omega arith)
 
@@ -89,10 +89,10 @@ module _ (earlier : List ℕ) (b : Book) (cs : List Call) (typed : All Typed cs)
   vs : List Write
   vs = beginWrites ++ written .blocks
 
-  wide : 128 ≤ length earlier
+  wide : fileHeaderSize ≤ length earlier
   wide = omega (arith, kept .wide)
 
-  header-long : length (fileHeader d) ≡ 128
+  header-long : length (fileHeader d) ≡ fileHeaderSize
   header-long = header-length d (run-kept b cs typed kept)
 
   away : All (Away 0 15 (length earlier)) vs

@@ -22,6 +22,7 @@ use Rattle.writer.specs.declared.HpsWriter.{HpsWriter}
 use Rattle.power_cut.specs.LoadingBook.{Block, Book, begun, lengthsOf, endOfBlocks, firstLeft, firstSide, sideOf, dataAt, bookAnswer, bookRun, openingOf, cuesOf}
 use Rattle.power_cut.specs.FinishedFile.{fileBytes}
 use Rattle.power_cut.specs.PowerCut.{begin, opens, reads, remains, first, next, estimates, recordsOf, answersOf, allWrites, nthCue}
+use Rattle.layout.specs.Refusals.{slotLimit, slotLeast}
 
 -- ---- The whole list
 
@@ -104,7 +105,7 @@ MostChannels =
 -- Begin is accepted on a slot of 192 to 16,777,216 bytes, in mono and stereo, with one lent byte or more.
 unfoldable pub Begins : Type 0
 Begins =
-    (earlier : List ℕ) → Slice earlier → 192 ≤ length earlier → length earlier ≤ 16777216 → (mode : Looping) (lent : List ℕ) → Slice lent → 1 ≤ length lent
+    (earlier : List ℕ) → Slice earlier → slotLeast ≤ length earlier → length earlier ≤ slotLimit → (mode : Looping) (lent : List ℕ) → Slice lent → 1 ≤ length lent
     → (begin (length earlier) 1 mode lent .answer ≡ accepted 0) × (begin (length earlier) 2 mode lent .answer ≡ accepted 0)
 
 -- Begin's record, of a refused one too, meets the premise of the calls.

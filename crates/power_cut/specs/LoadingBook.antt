@@ -6,7 +6,7 @@ use lib.ListN.{length, drop, getD, replicate}
 use lib.Dec.{ltb, leb, eqb}
 use Rattle.layout.specs.Choice.{pick, _or_}
 use Rattle.layout.specs.Lists.{filter, any, sum, firstIndex}
-use Rattle.layout.specs.Records.{P, firstBlockOffset, adpcmSamples}
+use Rattle.layout.specs.Records.{P, firstBlockOffset, adpcmSamples, dataAfter}
 use Rattle.layout.specs.Refusals.{blockLimit}
 use Rattle.layout.specs.declared.DspFormat.the-variants.{Adpcm}
 use Rattle.reader.specs.OpeningAndReading.{BlockAnswer, refused, ended, gave}
@@ -182,7 +182,7 @@ firstSide bs ch = pick (eqb ch 1) (firstRight bs) (firstLeft bs)
 
 -- Where a block's data stands: after its header and filled cues, the right side's after the padded left one.
 abbrev pub dataAt : Block → (channel : ℕ) → ℕ
-dataAt k ch = k .offset + (32 + P (8 * points (k .cues))) + pick (eqb ch 1) (P (length (k .push .left .bytes))) 0
+dataAt k ch = k .offset + dataAfter (points (k .cues)) + pick (eqb ch 1) (P (length (k .push .left .bytes))) 0
 
 -- "at block i its data, length and context in that channel, ADPCM, the first block's rate, coefficients and gain, and position i + 1, past the last the end":
 -- of the blocks from i on

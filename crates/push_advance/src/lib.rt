@@ -8,6 +8,7 @@ ghost use Prim.Native.Nat.{_+_, _<_, _≤_, _^_};
 ghost use lib.Dec.{eqb};
 ghost use Rattle.layout.specs.Choice.{pick};
 ghost use Rattle.push_plan.specs.PushPlan.{advanced};
+ghost use Rattle.layout.specs.Refusals.{cueLimit, blockLimit};
 
 // The first block's side.
 fn first_side(blocks: usize, kept: ChannelBlock, side: ChannelBlock) -> ChannelBlock
@@ -27,7 +28,7 @@ pub fn advance(
     right: ChannelBlock,
     last: bool,
 ) -> Stream
-    requires { ⌜ (s .id + taken .points < 2 ^ 32) × (s .blocks < 512) × (taken .points ≤ 128) × (s .offset + size < 2 ^ 64) × (s .sum + left .length < 2 ^ 64) ⌝ }
+    requires { ⌜ (s .id + taken .points < 2 ^ 32) × (s .blocks < blockLimit) × (taken .points ≤ cueLimit) × (s .offset + size < 2 ^ 64) × (s .sum + left .length < 2 ^ 64) ⌝ }
     ensures { λ r. ⌜ r ≡ advanced s taken end size loopat left right last ⌝ }
 {
     let first = s.left;

@@ -1,11 +1,10 @@
 // Push's refusals by the record, the rates and the lengths, in groups: each gives its first number due, 0 where none is.
+use layout::limits::BLOCK_LIMIT;
 use sizes::adpcm_bytes;
 use sizes::size_limit;
 ghost use mathlib.Core.Path.{_≡_};
 ghost use Rattle.layout.specs.Refusals.{firstDue};
 ghost use Rattle.push_due.specs.PushDue.{differ, changed, stateDue, rateDue, lengthDue};
-
-const BLOCK_LIMIT: usize = 512;
 
 // 26, 29, 25
 pub fn state_due(last: bool, own: usize, blocks: usize, channels: usize) -> u32

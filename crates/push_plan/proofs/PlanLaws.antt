@@ -7,8 +7,8 @@ use native.Mathlib.Omega.{arith}
 use borrow.Author.Tests.{ltb-false, leb-false, eq-eqb, ne-eqb, eqb-true, lt-ltb, le-ltb, not-false}
 use lib.Dec.{ltb, eqb, lit<}
 use Rattle.layout.specs.Choice.{pick, _and_}
-use Rattle.layout.specs.Records.{P, adpcmBytes, adpcmSamples}
-use Rattle.layout.specs.Refusals.{Due, firstDue}
+use Rattle.layout.specs.Records.{P, adpcmBytes, adpcmSamples, dataAfter}
+use Rattle.layout.specs.Refusals.{Due, firstDue, cueLimit, blockLimit, lengthLimit, monoLimit}
 use Rattle.layout.specs.Sizes.{saturated}
 use Rattle.layout.specs.declared.FrameContext.{FrameContext}
 use Rattle.layout.proofs.SizeLaws.{aligned}
@@ -31,13 +31,13 @@ use Rattle.push_plan.specs.declared.Plan.{Plan}
 -- ---- The sample that a block ends before
 
 module _ (base n : ℕ) where
-  pub end-kept : 131072 < n → base ≡ endFrom base n
+  pub end-kept : lengthLimit < n → base ≡ endFrom base n
   unfolding endFrom
-  end-kept h = rw (lt-ltb 131072 n h)
+  end-kept h = rw (lt-ltb lengthLimit n h)
 
-  pub end-later : n ≤ 131072 → (s : ℕ) → s ≡ adpcmSamples n → base + s ≡ endFrom base n
+  pub end-later : n ≤ lengthLimit → (s : ℕ) → s ≡ adpcmSamples n → base + s ≡ endFrom base n
   unfolding endFrom
-  end-later h s e = rw (le-ltb 131072 n h, e)
+  end-later h s e = rw (le-ltb lengthLimit n h, e)
 
 -- ---- The loop block
 
@@ -76,47 +76,47 @@ module _ (loopat : LoopAt) (offset : ℕ) (due : Bool) where
 
 -- ---- Sizes
 
-module _ (ch l r x : ℕ) (small : l ≤ 65536) (is : x ≡ saturated (P l)) where
+module _ (ch l r x : ℕ) (small : l ≤ monoLimit) (is : x ≡ saturated (P l)) where
   pub left-size : (ch ≡ 2 → ⊥) → x ≡ paddedSize ch l r
   unfolding paddedSize
   left-size h = rw (ne-eqb ch 2 h) (is ∙ aligned l (omega arith))
 
-  pub both-size : (y : ℕ) → ch ≡ 2 → r ≤ 65536 → y ≡ saturated (P r) → x + y ≡ paddedSize ch l r
+  pub both-size : (y : ℕ) → ch ≡ 2 → r ≤ monoLimit → y ≡ saturated (P r) → x + y ≡ paddedSize ch l r
   unfolding paddedSize
   both-size y h s e = rw (eq-eqb ch 2 h, is, e, aligned l (omega arith), aligned r (omega arith))
 
-pub aligned-small : (l x : ℕ) → l ≤ 65536 → x ≡ saturated (P l) → x ≤ 65536
+pub aligned-small : (l x : ℕ) → l ≤ monoLimit → x ≡ saturated (P l) → x ≤ monoLimit
 unfolding P
 aligned-small l x h e = let p = aligned l (omega arith) in omega arith
 
-pub size-small : (ch l r x : ℕ) → l ≤ 65536 → (ch ≡ 2 → r ≤ 65536) → x ≡ paddedSize ch l r → x ≤ 131072
+pub size-small : (ch l r x : ℕ) → l ≤ monoLimit → (ch ≡ 2 → r ≤ monoLimit) → x ≡ paddedSize ch l r → x ≤ lengthLimit
 unfolding paddedSize P
 size-small ch l r x h k e =
     by-cases (eqb ch 2)
     (λ q. let b = k (eqb-true ch 2 q) in let f : x ≡ P l + P r = e ∙ rw q in omega arith)
     (λ q. let f : x ≡ P l = e ∙ rw q in omega arith)
 
-pub block-small : (k d x : ℕ) → k ≤ 128 → d ≤ 131072 → x ≡ 32 + P (8 * k) + d → x ≤ 132128
+pub block-small : (k d x : ℕ) → k ≤ cueLimit → d ≤ lengthLimit → x ≡ dataAfter k + d → x ≤ 131104 + 8 * cueLimit
 unfolding P
 block-small k d x h g e = omega arith
 
-pub cues-end : (k x : ℕ) → k ≤ 128 → x ≡ saturated (P (8 * k)) → x ≡ P (8 * k)
+pub cues-end : (k x : ℕ) → k ≤ cueLimit → x ≡ saturated (P (8 * k)) → x ≡ P (8 * k)
 cues-end k x h e = e ∙ aligned (8 * k) (omega arith)
 
-pub filled-small : (k x : ℕ) → k ≤ 128 → x ≡ saturated (P (8 * k)) → x ≤ 1024
+pub filled-small : (k x : ℕ) → k ≤ cueLimit → x ≡ saturated (P (8 * k)) → x ≤ 8 * cueLimit
 unfolding P
 filled-small k x h e = let p = cues-end k x h e in omega arith
 
 -- ---- What follows where none before 24 is due
 
 pub record Passing (blocks ch : ℕ) (l : ChannelBlock) (lb rb : ℕ) : Type 0 where
-  pub few : blocks < 512
+  pub few : blocks < blockLimit
   pub long : 2 ≤ l .length
-  pub short : l .length ≤ 131072
-  pub left : lb ≤ 65536
-  pub right : ch ≡ 2 → rb ≤ 65536
+  pub short : l .length ≤ lengthLimit
+  pub left : lb ≤ monoLimit
+  pub right : ch ≡ 2 → rb ≤ monoLimit
 
-half : (n : ℕ) → n ≤ 131072 → adpcmBytes n ≤ 65536
+half : (n : ℕ) → n ≤ lengthLimit → adpcmBytes n ≤ monoLimit
 unfolding adpcmBytes
 half n h = omega arith
 
@@ -142,9 +142,9 @@ passing n last own blocks f g ch l r lb rb is z =
     let h₉ = none-due 13 _ _ (lit< tt) (h₈ .1) in
     let h₁₀ = none-due 11 _ _ (lit< tt) (h₉ .1) in
     let bytes = or-false _ _ (h₁₀ .0) in
-    let short : l .length ≤ 131072 = short-length (l .length) ch (ltb-false _ _ (h₉ .0)) in
+    let short : l .length ≤ lengthLimit = short-length (l .length) ch (ltb-false _ _ (h₉ .0)) in
     record {
-      few = leb-false 512 blocks (h₃ .0);
+      few = leb-false blockLimit blocks (h₃ .0);
       long = ltb-false (l .length) 2 (h₈ .0);
       short = short;
       left = omega (arith, eqb-true lb (adpcmBytes (l .length)) (not-false _ (bytes .0)), half (l .length) short);
@@ -193,7 +193,7 @@ module _ (s : Stream) (t : Taken) (held : Bool) (end ch : ℕ) (l r : ChannelBlo
       plan-room h p e = e ∙ refused-plan m room-is h
 
       module _ (fits : m ≡ 0) (loopat : LoopAt) (looped : loopat ≡ loopFrom s held (t .asked) end last) where
-        pub plan-made : (bytes start next : ℕ) (other : FrameContext) → bytes ≡ paddedSize ch lb rb → start ≡ 32 + P (8 * t .points)
+        pub plan-made : (bytes start next : ℕ) (other : FrameContext) → bytes ≡ paddedSize ch lb rb → start ≡ dataAfter (t .points)
             → next ≡ pick last (atOrNone loopat) (s .offset + size) → other ≡ secondContext ch r
             → record { due = 0; header = record { size = bytes; «end_address» = l .length - 1; «next_offset» = next; left = l .context; right = other; cues = t .points }; start = start; size = size; loopat = loopat }
             ≡ planOf s t held end ch l r lb rb last lent

@@ -5,8 +5,8 @@ use mathlib.Core.Bool.{Bool, false}
 use mathlib.Core.List.{List, [], _∷_, _++_}
 use lib.Dec.{ltb, eqb}
 use Rattle.layout.specs.Choice.{pick, _or_}
-use Rattle.layout.specs.Records.{P, zeroContext, adpcmSamples}
-use Rattle.layout.specs.Refusals.{firstDue, slotLimit}
+use Rattle.layout.specs.Records.{P, zeroContext, adpcmSamples, dataAfter}
+use Rattle.layout.specs.Refusals.{firstDue, slotLimit, lengthLimit}
 use Rattle.layout.specs.declared.FrameContext.{FrameContext}
 use Rattle.layout.specs.declared.BlockHeader.{BlockHeader}
 use Rattle.writer.specs.Loading.{byMode}
@@ -43,7 +43,7 @@ pub record Sound (s : Stream) : Type 0 where
 
 -- The sample that a block ends before; a length over 131,072, which is refused, adds nothing.
 unfoldable pub endFrom : (base length : ℕ) → ℕ
-endFrom b n = pick (ltb 131072 n) b (b + adpcmSamples n)
+endFrom b n = pick (ltb lengthLimit n) b (b + adpcmSamples n)
 
 -- The sum of padded data, by the channels' bytes (sizeOf).
 unfoldable pub paddedSize : (channels left right : ℕ) → ℕ
@@ -51,7 +51,7 @@ paddedSize ch l r = pick (eqb ch 2) (P l + P r) (P l)
 
 -- The size of a block with so many points and ranges (blockSize).
 unfoldable pub sizeFor : (points channels left right : ℕ) → ℕ
-sizeFor k ch l r = 32 + P (8 * k) + paddedSize ch l r
+sizeFor k ch l r = dataAfter k + paddedSize ch l r
 
 -- "A second channel not in use is zero, as is its context in each block." (rightContext)
 abbrev pub secondContext : (channels : ℕ) → ChannelBlock → FrameContext

@@ -1,6 +1,9 @@
 // What a push is to do, worked out of numbers alone: the first number due, the block's header and size, and what follows for the stream (document 01, "Loading").
 use layout::BlockHeader;
 use layout::FrameContext;
+use layout::limits::BLOCK_HEADER_SIZE;
+use layout::limits::CUE_POINT_SIZE;
+use layout::limits::LENGTH_LIMIT;
 use push_order::early_due;
 use push_order::room_due;
 use sizes::adpcm_samples;
@@ -12,15 +15,10 @@ use writer::Looping;
 ghost use mathlib.Core.Path.{_≡_};
 ghost use Prim.Native.Nat.{ℕ, _+_, _*_, _<_, _≤_, _^_};
 ghost use Rattle.layout.specs.Choice.{pick};
-ghost use Rattle.layout.specs.Records.{P};
+ghost use Rattle.layout.specs.Records.{P, dataAfter};
 ghost use Rattle.writer.specs.Calls.{orAt, atOrNone};
 ghost use Rattle.push_plan.specs.PushPlan.{endFrom, loopsTo, paddedSize, secondContext, Sound, noPlan, planOf};
-
-const HEADER_SIZE: usize = 32;
-
-const CUE_SIZE: usize = 8;
-
-const LENGTH_LIMIT: usize = 131072;
+ghost use Rattle.layout.specs.Refusals.{cueLimit, monoLimit};
 
 const END_BLOCK_OFFSET: u32 = 4294967295;
 
@@ -65,7 +63,7 @@ pub fn block_end(base: u64, length: usize) -> u64
 
 // The sum of padded data.
 fn data_size(channels: usize, left: usize, right: usize) -> usize
-    requires { ⌜ (left ≤ 65536) × (channels ≡ 2 → right ≤ 65536) ⌝ }
+    requires { ⌜ (left ≤ monoLimit) × (channels ≡ 2 → right ≤ monoLimit) ⌝ }
     ensures { λ r. ⌜ r ≡ paddedSize channels left right ⌝ }
 {
     let size = align(left);
@@ -77,10 +75,10 @@ fn data_size(channels: usize, left: usize, right: usize) -> usize
 
 // Where the data starts: after the header and the filled cues.
 fn data_start(points: usize) -> usize
-    requires { ⌜ points ≤ 128 ⌝ }
-    ensures { λ r. ⌜ r ≡ 32 + P (8 * points) ⌝ }
+    requires { ⌜ points ≤ cueLimit ⌝ }
+    ensures { λ r. ⌜ r ≡ dataAfter points ⌝ }
 {
-    HEADER_SIZE + align(CUE_SIZE * points)
+    BLOCK_HEADER_SIZE + align(CUE_POINT_SIZE * points)
 }
 
 // A second channel not in use has a context of zeros.
@@ -186,7 +184,7 @@ pub fn plan_push(
     last: bool,
     lent: usize,
 ) -> Plan
-    requires { ⌜ Sound s × (taken .points ≤ 128) ⌝ }
+    requires { ⌜ Sound s × (taken .points ≤ cueLimit) ⌝ }
     ensures { λ p. ⌜ p ≡ planOf s taken held end channels left right «left_bytes» «right_bytes» last lent ⌝ }
 {
     let first = s.left;

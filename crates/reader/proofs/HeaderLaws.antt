@@ -6,7 +6,7 @@ use native.Mathlib.Omega.{arith}
 use lib.ListN.{length, getD}
 use lib.Dec.{leb}
 use borrow.Author.Tests.{leb-true, leb-false}
-use Rattle.layout.specs.Records.{P, Read, headerAt, readHeader}
+use Rattle.layout.specs.Records.{P, Read, headerAt, readHeader, dataAfter}
 use Rattle.layout.specs.Answers.{refusalOf, headerSays}
 use Rattle.layout.specs.declared.BlockHeader.{BlockHeader}
 use Rattle.layout.specs.declared.answers.HeaderRead.{HeaderRead}
@@ -27,17 +27,17 @@ module _ (s : List ℕ) (o : ℕ) {q : HeaderRead} (e : headerSays q ≡ readHea
 -- it is the one at the offset
 pub header-is : (s : List ℕ) (o : ℕ) {h : BlockHeader} → readHeader s o ≡ Read.value h → h ≡ headerAt s o
 unfolding readHeader
-header-is s o {h} e = field-value s (o + (32 + P (8 * getD s (o + 28) 0))) (headerAt s o) h e .is
+header-is s o {h} e = field-value s (o + dataAfter (getD s (o + 28) 0)) (headerAt s o) h e .is
 
 pub P-above : (n : ℕ) → n ≤ P n
 unfolding P
 P-above n = omega arith
 
 -- it lies in the slot with its filled cues
-pub header-inside : (s : List ℕ) (o : ℕ) {h : BlockHeader} → readHeader s o ≡ Read.value h → o + (32 + P (8 * h .cues)) ≤ length s
+pub header-inside : (s : List ℕ) (o : ℕ) {h : BlockHeader} → readHeader s o ≡ Read.value h → o + dataAfter (h .cues) ≤ length s
 unfolding readHeader headerAt
 header-inside s o {h} e =
-    let g = field-value s (o + (32 + P (8 * getD s (o + 28) 0))) (headerAt s o) h e in
+    let g = field-value s (o + dataAfter (getD s (o + 28) 0)) (headerAt s o) h e in
     let c : h .cues ≡ getD s (o + 28) 0 = ap (λ (x : BlockHeader). x .cues) (g .is) in
     rw c (g .inside)
 
@@ -45,7 +45,7 @@ header-inside s o {h} e =
 pub header-cases : {A : Type 0} (s : List ℕ) (o : ℕ) → (readHeader s o ≡ Read.refused 1 → A) → ((h : BlockHeader) → readHeader s o ≡ Read.value h → A) → A
 unfolding readHeader
 header-cases s o f g =
-    let past = o + (32 + P (8 * getD s (o + 28) 0)) in
+    let past = o + dataAfter (getD s (o + 28) 0) in
     by-cases (leb past (length s))
     (λ t. g (headerAt s o) (field-inside s past (headerAt s o) (leb-true past (length s) t)))
     (λ t. f (field-past s past (headerAt s o) (leb-false past (length s) t)))

@@ -9,8 +9,8 @@ use lib.ListN.{length, length-append}
 use lib.Dec.{ltb, eqb}
 use borrow.Author.Tests.{eqb-true, not-false}
 use Rattle.layout.specs.Choice.{pick, _or_}
-use Rattle.layout.specs.Records.{Read, on, field, u32At, readChannel, readMagic}
-use Rattle.layout.specs.Refusals.{wrongCount, slotLimit}
+use Rattle.layout.specs.Records.{Read, on, field, u32At, readChannel, readMagic, fileHeaderSize, firstBlockOffset}
+use Rattle.layout.specs.Refusals.{wrongCount, slotLimit, blockLimit}
 use Rattle.layout.specs.declared.Channel.{Channel}
 use Rattle.layout.proofs.Cases.{by-cases}
 use Rattle.reader.proofs.HeaderLaws.{header-cases}
@@ -54,7 +54,7 @@ pub record Parts (s : List ℕ) (r : HpsReader) : Type 0 where
   pub right-count : wrongCount count ≡ false
   pub left-read : readChannel s 16 ≡ Read.value left
   pub right-read : readChannel s 72 ≡ Read.value right
-  pub walk : walkFrom 512 s [] 128 ≡ Walked.walked offsets start
+  pub walk : walkFrom blockLimit s [] firstBlockOffset ≡ Walked.walked offsets start
   pub is : made rate count left right offsets start ≡ r
 
 pub opened-parts : (s : List ℕ) (r : HpsReader) → opening s ≡ Opened.opened r → Parts s r
@@ -67,7 +67,7 @@ opened-parts s r e =
     let g = past-test (wrongCount (f .0)) 3 (f .2) in
     let l = past-read (readChannel s 16) (g .1) in
     let x = past-read (readChannel s 72) (l .2) in
-    let w = past-walk (walkFrom 512 s [] 128) {g = λ os start. Opened.opened (made (d .0) (f .0) (l .0) (x .0) os start)} (x .2) in
+    let w = past-walk (walkFrom blockLimit s [] firstBlockOffset) {g = λ os start. Opened.opened (made (d .0) (f .0) (l .0) (x .0) os start)} (x .2) in
     record {
       rate = d .0;
       count = f .0;
@@ -122,7 +122,7 @@ opened-readable : (s : List ℕ) (r : HpsReader) → opening s ≡ Opened.opened
 unfolding made
 opened-readable s r e =
     let p = opened-parts s r e in
-    rw (← (p .is)) (record { channels = ⊎-elim (λ h. omega arith) (λ h. omega arith) (one-or-two (p .count) (p .right-count)); blocks = walk-few 512 s [] 128 (p .offsets) (p .start) (p .walk) })
+    rw (← (p .is)) (record { channels = ⊎-elim (λ h. omega arith) (λ h. omega arith) (one-or-two (p .count) (p .right-count)); blocks = walk-few blockLimit s [] fileHeaderSize (p .offsets) (p .start) (p .walk) })
 
 readable-of : (o : Opened) → ((r : HpsReader) → o ≡ Opened.opened r → Readable r) → Readable (openCall o .reader)
 readable-of (Opened.refused n) f = record { channels = omega arith; blocks = omega arith }

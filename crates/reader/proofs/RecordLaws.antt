@@ -12,10 +12,11 @@ use denote.Laws.{Is}
 use Rattle.reader.specs.declared.HpsReader.{HpsReader}
 use Rattle.reader.specs.OpeningAndReading.{Readable, offsetIn, offsetsFrom}
 use Rattle.reader.proofs.HpsReader as R
+use Rattle.layout.specs.Refusals.{blockLimit}
 
 pub record Shaped (r : HpsReader) : Type 0 where
   pub channels : length (r .channels) ≡ 2
-  pub offsets : length (r .offsets) ≡ 512
+  pub offsets : length (r .offsets) ≡ blockLimit
 
 pub shaped : (r : HpsReader) (vs : List Val) → Is R.the-row r vs → Shaped r
 shaped r vs is = record {

@@ -6,7 +6,7 @@ use lib.Dec.{ltb, leb, eqb}
 use lib.IntN.{ℤ}
 use Rattle.layout.specs.Choice.{pick}
 use Rattle.layout.specs.Lists.{firstIndex}
-use Rattle.layout.specs.Records.{u32At, Read, field, on, P, readChannel, noChannel, readMagic, firstBlockOffset, endBlockOffset, readHeader, lengthIn, addressToByteUp}
+use Rattle.layout.specs.Records.{u32At, Read, field, on, P, readChannel, noChannel, readMagic, firstBlockOffset, endBlockOffset, readHeader, lengthIn, addressToByteUp, dataAfter}
 use Rattle.layout.specs.Refusals.{wrongCount, blockLimit, slotLimit}
 use Rattle.layout.specs.declared.FrameContext.{FrameContext}
 use Rattle.layout.specs.declared.DspFormat.{DspFormat}
@@ -100,7 +100,7 @@ bytesIn r h ch = addressToByteUp (channelIn r ch .format) (lengthIn h)
 
 -- "Then each channel's data": after the filled cues; "Channel 1's data starts P(bytes) after channel 0's"
 unfoldable pub dataStart : (offset : ℕ) → BlockHeader → (channel bytes : ℕ) → ℕ
-dataStart o h ch n = o + (32 + P (8 * h .cues)) + pick (eqb ch 1) (P n) 0
+dataStart o h ch n = o + dataAfter (h .cues) + pick (eqb ch 1) (P n) 0
 
 -- "the data as a part of the slot itself"; "1 if header or data leaves the slot"
 unfoldable pub dataPart : List ℕ → (start n : ℕ) → Read (List ℕ)

@@ -11,8 +11,8 @@ use lib.Dec.{ltb, eqb}
 use borrow.Author.Tests.{eqb-true, not-false}
 use Rattle.layout.specs.Choice.{pick, _or_}
 use Rattle.layout.specs.Lists.{All, none, more, same}
-use Rattle.layout.specs.Records.{Read, on, field, u32At, readChannel, magic}
-use Rattle.layout.specs.Refusals.{wrongCount, slotLimit}
+use Rattle.layout.specs.Records.{Read, on, field, u32At, readChannel, magic, firstBlockOffset}
+use Rattle.layout.specs.Refusals.{wrongCount, slotLimit, blockLimit}
 use Rattle.layout.specs.declared.Channel.{Channel}
 use Rattle.layout.proofs.Cases.{by-cases}
 use Rattle.reader.specs.declared.LoopStart.{LoopStart}
@@ -33,21 +33,21 @@ all-drop zero xs a = a
 all-drop (suc i) [] a = none
 all-drop (suc i) (x ∷ xs) (more q a) = all-drop i xs a
 
-module _ (s : List ℕ) (rate count : ℕ) (l x : Channel) (os : List ℕ) (start : LoopStart) (c : wrongCount count ≡ false) (w : walkFrom 512 s [] 128 ≡ Walked.walked os start) where
+module _ (s : List ℕ) (rate count : ℕ) (l x : Channel) (os : List ℕ) (start : LoopStart) (c : wrongCount count ≡ false) (w : walkFrom blockLimit s [] firstBlockOffset ≡ Walked.walked os start) where
   abbrev r : HpsReader
   r = made rate count l x os start
 
-  found : Found s 512 [] 128 os start
-  found = walk-found 512 s [] 128 os start none (λ i j a b. absurd (omega arith)) (λ i a. absurd (omega arith)) w
+  found : Found s blockLimit [] firstBlockOffset os start
+  found = walk-found blockLimit s [] firstBlockOffset os start none (λ i j a b. absurd (omega arith)) (λ i a. absurd (omega arith)) w
 
   -- the record's offsets are those walked
   offset-is : (i : ℕ) → i < length os → offsetIn r i ≡ getD os i 0
   unfolding made
-  offset-is i h = List·getD-append os (replicate (512 - length os) 0) 0 i h
+  offset-is i h = List·getD-append os (replicate (blockLimit - length os) 0) 0 i h
 
   offsets-are : (i : ℕ) → offsetsFrom r i ≡ drop i os
   unfolding made
-  offsets-are i = ap (drop i) (take-append-seam os (replicate (512 - length os) 0))
+  offsets-are i = ap (drop i) (take-append-seam os (replicate (blockLimit - length os) 0))
 
   end-of : Listed s r (firstCursor r) (cueCount s r + pick (looped (r .«loop_start»)) 1 0)
   unfolding cueCount

@@ -8,7 +8,7 @@ use lib.IntN.{ℤ}
 use mir.Syntax.{w16, w32}
 use mir.Val.{SFits, ofZ, toZ}
 use mir.Facts.{toZ-ofZ}
-use Rattle.layout.specs.Records.{P, Read, field, u16At, u32At, i16At, contextAt, headerAt, readHeader, cueAt}
+use Rattle.layout.specs.Records.{P, Read, field, u16At, u32At, i16At, contextAt, headerAt, readHeader, cueAt, dataAfter}
 use Rattle.layout.specs.declared.FrameContext.{FrameContext}
 use Rattle.layout.specs.declared.BlockHeader.{BlockHeader}
 use Rattle.layout.specs.declared.CuePoint.{CuePoint}
@@ -39,12 +39,12 @@ module _ (s : List ℕ) (at : ℕ) where
   -- a refused field of it
   pub header-out : {A : Type 0} {past : ℕ} {a : A} {n : ℕ} → Missed s past a n → past ≤ at + 32 → Read.refused n ≡ readHeader s at
   unfolding readHeader
-  header-out m h = field-later m (at + (32 + P (8 * getD s (at + 28) 0))) (headerAt s at) (omega arith)
+  header-out m h = field-later m (at + dataAfter (getD s (at + 28) 0)) (headerAt s at) (omega arith)
 
   module _ {n : ℕ} (c : Got s (at + 28 + 1) (getD s (at + 28) 0) n) where
     pub cues-out : length s < at + (32 + (n + 3) / 4 * 32) → Read.refused 1 ≡ readHeader s at
     unfolding readHeader
-    cues-out h = answer-out s (at + (32 + P (8 * getD s (at + 28) 0))) (headerAt s at) (rw (← (c .is)) (omega (arith, filled n)))
+    cues-out h = answer-out s (at + dataAfter (getD s (at + 28) 0)) (headerAt s at) (rw (← (c .is)) (omega (arith, filled n)))
 
     pub header-made : {size end next p q : ℕ} {x y z w : ℤ} → (size ≡ u32At s at) × ((end ≡ u32At s (at + 4)) × (next ≡ u32At s (at + 8)))
         → Got s (at + 12 + 2) (u16At s (at + 12)) p → Got s (at + 14 + 2) (i16At s (at + 14)) x → Got s (at + 16 + 2) (i16At s (at + 16)) y
@@ -66,5 +66,5 @@ module _ (s : List ℕ) (at : ℕ) where
         let e16 : at + 12 + 4 ≡ at + 16 = omega arith in
         let e22 : at + 20 + 2 ≡ at + 22 = omega arith in
         let e24 : at + 20 + 4 ≡ at + 24 = omega arith in
-        answer-in s (at + (32 + P (8 * getD s (at + 28) 0))) (headerAt s at) (rw (← (c .is)) (omega (arith, filled n)))
+        answer-in s (at + dataAfter (getD s (at + 28) 0)) (headerAt s at) (rw (← (c .is)) (omega (arith, filled n)))
         (rw (e14, e16, e22, e24, toZ-ofZ fx, toZ-ofZ fy, toZ-ofZ fz, toZ-ofZ fw, k .0, k .1 .0, k .1 .1, a .is, b .is, d .is, e .is, f .is, g .is, c .is))

@@ -15,6 +15,8 @@ use layout::fields::read_i32;
 use layout::fields::read_u8;
 use layout::fields::read_u16;
 use layout::fields::read_u32;
+use layout::limits::ALIGNMENT;
+use layout::limits::BLOCK_HEADER_SIZE;
 ghost use mathlib.Core.Path.{_≡_};
 ghost use Prim.Native.Nat.{_+_, _≤_};
 ghost use lib.ListN.{length};
@@ -83,7 +85,7 @@ fn read_contexts_on(
         return HeaderRead::Refused(read.number());
     };
     let cues = count as usize;
-    if inside(s.len(), at, 32 + (cues + 3) / 4 * 32) {
+    if inside(s.len(), at, BLOCK_HEADER_SIZE + (cues + 3) / 4 * ALIGNMENT) {
         HeaderRead::Value(BlockHeader {
             size,
             end_address,

@@ -26,6 +26,7 @@ ghost use mathlib.Core.Path.{_≡_};
 ghost use lib.ListN.{length};
 ghost use Rattle.reader.specs.OpeningAndReading.{Readable, blockRead};
 ghost use Rattle.block_reader.specs.BlockAnswers.{blockCall};
+ghost use Rattle.layout.specs.Refusals.{blockLimit};
 
 // A listing has fewer than 5,000,000 bytes, and each turn compares 65,000 or the rest.
 const TURNS: usize = 100;
@@ -72,7 +73,7 @@ fn is_format(format: DspFormat, n: u32) -> bool {
 }
 
 fn is_context(context: FrameContext, want: &[u8], at: usize) -> bool
-    requires { ⌜ at < 512 ⌝ }
+    requires { ⌜ at < blockLimit ⌝ }
 {
     (context.predictor_and_scale == half(want, at))
         & (context.last == signed(want, at + 2))

@@ -28,6 +28,7 @@ use Rattle.writer.specs.Typed.{TypedCue, TypedBlock, TypedSide, TypedPush, Type
 use Rattle.power_cut.proofs.ElementLaws.{all-append}
 use Rattle.noted_calls.specs.NotedCalls.{lentOf}
 use Rattle.calls.specs.Script.{pushWith, pushBy, callBy, callsIn, callsOf, openingOf}
+use Rattle.layout.specs.Refusals.{keyLimit}
 
 -- ---- Numbers
 
@@ -167,7 +168,7 @@ module _ {Q : List ℕ → Type 0} where
 
 pub zeros-slice : (n : ℕ) → Slice (lentOf n)
 zeros-slice n =
-    let m = min n 65536 in
+    let m = min n keyLimit in
     let long : length (replicate {A = ℕ} m 0) ≡ m = length-replicate {A = ℕ} m 0 in
     record {
       bytes = λ i h. rw (getD-replicate {A = ℕ} m i 0 0 (rw long at h)) (omega arith);
@@ -211,7 +212,7 @@ typed-calls n big (more {x} {xs} q a) = all-append (typed-call (kindOf x) x n xs
 
 pub script-typed : (s : List ℕ) → Slice s → All Typed (callsOf s)
 unfolding callsOf
-script-typed s h = typed-calls (openingOf s .lent) (h .long) (all-rest 65536 (lines-short s))
+script-typed s h = typed-calls (openingOf s .lent) (h .long) (all-rest keyLimit (lines-short s))
 
 pub channels-typed : (l : List ℕ) → beginLine l .channels < 18446744073709551616
 unfolding beginLine

@@ -1,21 +1,22 @@
 // Lengths, bytes and samples. Every argument is taken, and no sum wraps.
 use layout::DspFormat;
+use layout::limits::ALIGNMENT;
+use layout::limits::MONO_LIMIT;
+use layout::limits::STEREO_LIMIT;
 ghost use mathlib.Core.Path.{_≡_};
 ghost use Prim.Native.Nat.{_+_};
 ghost use Rattle.layout.specs.Records.{P, adpcmBytes, addressToByteUp, adpcmSamples, numSamples};
 ghost use Rattle.layout.specs.Refusals.{sizeLimit};
 ghost use Rattle.layout.specs.Sizes.{saturated};
 
-const MONO_LIMIT: usize = 65536;
-
-const STEREO_LIMIT: usize = 32768;
+const MOST_PADDING: usize = ALIGNMENT - 1;
 
 // The alignment of data in an HPS file: P(n), or usize::MAX where that is larger.
 pub fn align(n: usize) -> usize
     ensures { λ r. ⌜ r ≡ saturated (P n) ⌝ }
 {
-    if n <= usize::MAX - 31 {
-        (n + 31) / 32 * 32
+    if n <= usize::MAX - MOST_PADDING {
+        (n + MOST_PADDING) / ALIGNMENT * ALIGNMENT
     } else {
         usize::MAX
     }

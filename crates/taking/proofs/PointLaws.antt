@@ -29,6 +29,7 @@ use Rattle.writer.specs.declared.Cue.{Cue}
 use Rattle.writer.specs.declared.HpsWriter.{HpsWriter}
 use Rattle.writer.proofs.CueLaws.{points-few, points-length}
 use Rattle.taking.proofs.TakeLaws.{unrolled, none-left}
+use Rattle.layout.specs.Refusals.{cueLimit}
 
 -- ---- A cue point
 
@@ -64,7 +65,7 @@ pub points-start : (l : List ℕ) (at base id : ℕ) (t : List Cue) (from to : �
 points-start l at base id t from to h r = record { above = omega arith; within = h; ids = omega arith; long = refl; room = r; rest = refl }
 
 module _ (l : List ℕ) (at base id : ℕ) (t : List Cue) (from to : ℕ) (b : List ℕ) (p n k : ℕ)
-    (len : length t ≡ 128) (most : to ≤ 128) (inv : Points l at base id t from to b p n k) where
+    (len : length t ≡ cueLimit) (most : to ≤ cueLimit) (inv : Points l at base id t from to b p n k) where
   module _ (z : Cue) (q : Bool) (lt : k < to) (is : q ≡ loops (getD t k z .kind)) where
     pub points-skip : q ≡ true → Points l at base id t from to b p n (k + 1)
     unfolding pointBytes pointsOf

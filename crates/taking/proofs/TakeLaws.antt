@@ -19,10 +19,11 @@ use Rattle.taking.specs.Taking.{tallied, takesTo, takenTo, Taking}
 use Rattle.writer.proofs.CueLaws.{points-few}
 use Rattle.writer.specs.declared.Cue.{Cue}
 use Rattle.taking.specs.declared.Taken.{Taken}
+use Rattle.layout.specs.Refusals.{cueLimit}
 
 -- ---- A part of a table of 128 cues, from its first cue on
 
-module _ (t : List Cue) (to k : ℕ) (len : length t ≡ 128) (most : to ≤ 128) where
+module _ (t : List Cue) (to k : ℕ) (len : length t ≡ cueLimit) (most : to ≤ cueLimit) where
   pub unrolled : (z : Cue) → k < to → slice k to t ≡ getD t k z ∷ slice (k + 1) to t
   unrolled z lt = let h : to ≤ length t = omega arith in slice-cons k to t z lt h ∙ rw add-one
 
@@ -39,7 +40,7 @@ pub record Below (t : List Cue) (from to lim k : ℕ) : Type 0 where
   pub within : k ≤ to
   pub rest : from + below lim (slice from to t) ≡ k + below lim (slice k to t)
 
-module _ (t : List Cue) (from to lim k : ℕ) (len : length t ≡ 128) (most : to ≤ 128) (inv : Below t from to lim k) where
+module _ (t : List Cue) (from to lim k : ℕ) (len : length t ≡ cueLimit) (most : to ≤ cueLimit) (inv : Below t from to lim k) where
   pub below-again : (z : Cue) → k < to → getD t k z .start < lim → Below t from to lim (k + 1)
   unfolding below
   below-again z lt h =
@@ -81,7 +82,7 @@ or-true false b h = h
 or-skip : (a b c : Bool) → b ≡ c → a or b ≡ a or c
 or-skip a b c h = rw h
 
-module _ (t : List Cue) (from to k n : ℕ) (asked : Bool) (len : length t ≡ 128) (most : to ≤ 128) (inv : Tally t from to k n asked) where
+module _ (t : List Cue) (from to k n : ℕ) (asked : Bool) (len : length t ≡ cueLimit) (most : to ≤ cueLimit) (inv : Tally t from to k n asked) where
   module _ (z : Cue) (b : Bool) (lt : k < to) (is : b ≡ loops (getD t k z .kind)) where
     pub tally-loop : b ≡ true → Tally t from to (k + 1) n true
     unfolding points filter any
@@ -113,7 +114,7 @@ module _ (t : List Cue) (from to k n : ℕ) (asked : Bool) (len : length t ≡ 1
 
 -- ---- Looking for a Loop
 
-module _ (t : List Cue) (to k : ℕ) (len : length t ≡ 128) (most : to ≤ 128) (inv : anyLoop (slice 0 to t) ≡ anyLoop (slice k to t)) where
+module _ (t : List Cue) (to k : ℕ) (len : length t ≡ cueLimit) (most : to ≤ cueLimit) (inv : anyLoop (slice 0 to t) ≡ anyLoop (slice k to t)) where
   module _ (z : Cue) (b : Bool) (lt : k < to) (is : b ≡ loops (getD t k z .kind)) where
     pub loop-found : b ≡ true → true ≡ anyLoop (slice 0 to t)
     unfolding any

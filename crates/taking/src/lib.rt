@@ -1,5 +1,7 @@
 // The cues that a block takes of the table, and their bytes (document 01, "Loading").
 use block_parts::put_fillers;
+use layout::limits::CUE_LIMIT;
+use layout::limits::CUE_POINT_SIZE;
 use puts::put_u32;
 use writer::Cue;
 use writer::CueKind;
@@ -7,13 +9,12 @@ ghost use mathlib.Core.Path.{_≡_};
 ghost use Prim.Native.Nat.{_+_, _-_, _*_, _≤_, _<_, _^_};
 ghost use lib.ListN.{length};
 ghost use lib.Seq.{slice};
-ghost use Rattle.layout.specs.Records.{P, cueBytes};
+ghost use Rattle.layout.specs.Records.{P, cueBytes, cuePointSize};
 ghost use Rattle.layout.specs.Puts.{putAt};
 ghost use Rattle.writer.specs.Loading.{loops, anyLoop};
 ghost use Rattle.writer.specs.Calls.{below};
 ghost use Rattle.taking.specs.Taking.{tallied, takesTo, takenTo, cuePoint, pointBytes, filledBytes, Taking};
-
-const CUE_SIZE: usize = 8;
+ghost use Rattle.layout.specs.Refusals.{cueLimit};
 
 // The cues of the table up to a place: where they end, how many of them are points and ranges, whether a Loop is among them.
 pub struct Taken {
@@ -33,8 +34,8 @@ fn loops(kind: CueKind) -> bool
 }
 
 // Where the cues from a place on that start below a limit end.
-fn below(cues: [Cue; 128], from: usize, count: usize, limit: u64) -> usize
-    requires { ⌜ (from ≤ count) × (count ≤ 128) ⌝ }
+fn below(cues: [Cue; CUE_LIMIT], from: usize, count: usize, limit: u64) -> usize
+    requires { ⌜ (from ≤ count) × (count ≤ cueLimit) ⌝ }
     ensures { λ r. ⌜ (r ≡ from + below limit (slice from count cues)) × (from ≤ r) × (r ≤ count) ⌝ }
 {
     let mut k = from;
@@ -48,8 +49,8 @@ fn below(cues: [Cue; 128], from: usize, count: usize, limit: u64) -> usize
     k
 }
 
-fn tally(cues: [Cue; 128], from: usize, to: usize) -> Taken
-    requires { ⌜ (from ≤ to) × (to ≤ 128) ⌝ }
+fn tally(cues: [Cue; CUE_LIMIT], from: usize, to: usize) -> Taken
+    requires { ⌜ (from ≤ to) × (to ≤ cueLimit) ⌝ }
     ensures { λ r. ⌜ r ≡ tallied to (slice from to cues) ⌝ }
 {
     let mut k = from;
@@ -69,8 +70,8 @@ fn tally(cues: [Cue; 128], from: usize, to: usize) -> Taken
 }
 
 // Of the cues from a place on those that a block takes whose samples end before this one; the last takes all that remain.
-pub fn take(cues: [Cue; 128], from: usize, count: usize, end: u64, last: bool) -> Taken
-    requires { ⌜ (from ≤ count) × (count ≤ 128) ⌝ }
+pub fn take(cues: [Cue; CUE_LIMIT], from: usize, count: usize, end: u64, last: bool) -> Taken
+    requires { ⌜ (from ≤ count) × (count ≤ cueLimit) ⌝ }
     ensures { λ r. ⌜ r ≡ tallied (from + takesTo cues from count end last) (takenTo cues from count end last) ⌝ }
 {
     if last {
@@ -81,8 +82,8 @@ pub fn take(cues: [Cue; 128], from: usize, count: usize, end: u64, last: bool) -
 }
 
 // Whether the table has a Loop.
-pub fn any_loop(cues: [Cue; 128], count: usize) -> bool
-    requires { ⌜ count ≤ 128 ⌝ }
+pub fn any_loop(cues: [Cue; CUE_LIMIT], count: usize) -> bool
+    requires { ⌜ count ≤ cueLimit ⌝ }
     ensures { λ r. ⌜ r ≡ anyLoop (slice 0 count cues) ⌝ }
 {
     let mut k: usize = 0;
@@ -106,7 +107,7 @@ fn distance(a: u64, b: u64) -> u64
 
 // A cue point; of its index the low 32 bits.
 fn put_point(buf: &mut [u8], at: usize, index: u64, id: u32)
-    requires { ⌜ at + 8 ≤ length (now buf) ⌝ }
+    requires { ⌜ at + cuePointSize ≤ length (now buf) ⌝ }
     ensures { λ _. ⌜ now (buf .exit) ≡ putAt (now (buf .entry)) at (cueBytes (cuePoint index id)) ⌝ }
 {
     put_u32(buf, at, (index % 4294967296) as u32);
@@ -117,13 +118,13 @@ fn put_point(buf: &mut [u8], at: usize, index: u64, id: u32)
 fn put_points(
     buf: &mut [u8],
     at: usize,
-    cues: [Cue; 128],
+    cues: [Cue; CUE_LIMIT],
     from: usize,
     to: usize,
     base: u64,
     id: u32,
 )
-    requires { ⌜ (from ≤ to) × (to ≤ 128) × (id + 128 < 2 ^ 32) ⌝ }
+    requires { ⌜ (from ≤ to) × (to ≤ cueLimit) × (id + cueLimit < 2 ^ 32) ⌝ }
     requires { ⌜ at + length (pointBytes base id (slice from to cues)) ≤ length (now buf) ⌝ }
     ensures { λ _. ⌜ now (buf .exit) ≡ putAt (now (buf .entry)) at (pointBytes base id (slice from to cues)) ⌝ }
 {
@@ -138,7 +139,7 @@ fn put_points(
             continue;
         }
         put_point(buf, p, distance(cue.start, base), n);
-        p += 8;
+        p += CUE_POINT_SIZE;
         n += 1;
     }
 }
@@ -147,18 +148,18 @@ fn put_points(
 pub fn put_taken(
     buf: &mut [u8],
     at: usize,
-    cues: [Cue; 128],
+    cues: [Cue; CUE_LIMIT],
     from: usize,
     to: usize,
     base: u64,
     id: u32,
     points: usize,
 )
-    requires { ⌜ (to ≤ 128) × (id + 128 < 2 ^ 32) ⌝ }
+    requires { ⌜ (to ≤ cueLimit) × (id + cueLimit < 2 ^ 32) ⌝ }
     requires { ⌜ Taking cues from to points ⌝ }
-    requires { ⌜ at + P (8 * points) ≤ length (now buf) ⌝ }
+    requires { ⌜ at + P (cuePointSize * points) ≤ length (now buf) ⌝ }
     ensures { λ _. ⌜ now (buf .exit) ≡ putAt (now (buf .entry)) at (filledBytes base id (slice from to cues)) ⌝ }
 {
     put_points(buf, at, cues, from, to, base, id);
-    put_fillers(buf, at + CUE_SIZE * points, points);
+    put_fillers(buf, at + CUE_POINT_SIZE * points, points);
 }

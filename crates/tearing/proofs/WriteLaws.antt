@@ -12,7 +12,7 @@ use lib.IntN.{ℤ}
 use Rattle.layout.specs.Choice.{pick, _or_}
 use Rattle.layout.specs.Lists.{All, none, more, any, concat, filter}
 use Rattle.layout.specs.Types.{Bytes}
-use Rattle.layout.specs.Records.{P, adpcmSamples, magic, be16, be32, beZ16, contextBytes, channelBytes, fileHeaderBytes, headerBytes, cueBytes, fillers, padded, blockHeader, blockBytes}
+use Rattle.layout.specs.Records.{P, adpcmSamples, magic, be16, be32, beZ16, contextBytes, channelBytes, fileHeaderBytes, headerBytes, cueBytes, fillers, padded, blockHeader, blockBytes, fileHeaderSize}
 use Rattle.layout.specs.declared.FrameContext.{FrameContext}
 use Rattle.layout.specs.declared.Channel.{Channel}
 use Rattle.layout.specs.declared.CuePoint.{CuePoint}
@@ -159,7 +159,7 @@ run-bytes b (c ∷ cs) (more t ts) h = all-append (call-bytes b c t h) (run-byte
 abbrev Ends : ℕ → Write → Type 0
 Ends n w = w .offset + length (w .bytes) ≤ n
 
-header-ends : (f : Bool) (h : List ℕ) {n : ℕ} → 128 ≤ n → All (Ends n) (pick f (headerWrites h) [])
+header-ends : (f : Bool) (h : List ℕ) {n : ℕ} → fileHeaderSize ≤ n → All (Ends n) (pick f (headerWrites h) [])
 header-ends true h wide = more (header-first h wide .inside) (more (header-second h wide 0 .inside) (more (header-third h wide .inside) none))
 header-ends false h wide = none
 

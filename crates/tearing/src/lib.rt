@@ -1,16 +1,14 @@
 // What a power cut leaves of the writes, moment by moment.
 use layout::fields::inside;
 use puts::put_bytes;
+use writer::MOST_WRITES;
 use writer::Place;
 ghost use mathlib.Core.Path.{_≡_};
 ghost use mathlib.Core.List.{List};
 ghost use Prim.Native.Nat.{ℕ, _+_, _≤_, min};
 ghost use lib.ListN.{length, take};
-ghost use Rattle.writer.specs.WritesAndCuttingRule.{write, writesIn};
+ghost use Rattle.writer.specs.WritesAndCuttingRule.{write, writesIn, mostWrites};
 ghost use Rattle.tearing.specs.Moments.{reached, slotAt, EveryMoment, PowerCutAtMoments};
-
-// As many writes as a loading hands out: begin's, 512 blocks, finish's three.
-pub const MOST_WRITES: usize = 516;
 
 // Every moment is one of the cuts that the theorems speak of.
 pub fn every_moment()
@@ -51,8 +49,14 @@ fn reach_next(slot: &mut [u8], at: usize, bytes: &[u8], k: usize)
 }
 
 // The same of as many writes as are there.
-fn carry_first(slot: &mut [u8], places: [Place; 516], count: usize, bytes: &[u8], moment: usize)
-    requires { ⌜ count ≤ 516 ⌝ }
+fn carry_first(
+    slot: &mut [u8],
+    places: [Place; MOST_WRITES],
+    count: usize,
+    bytes: &[u8],
+    moment: usize,
+)
+    requires { ⌜ count ≤ mostWrites ⌝ }
     ensures { λ _. ⌜ now (slot .exit) ≡ slotAt (now (slot .entry)) (writesIn (take count places) (now (bytes .entry))) moment ⌝ }
 {
     let mut i: usize = 0;
@@ -74,7 +78,13 @@ fn carry_first(slot: &mut [u8], places: [Place; 516], count: usize, bytes: &[u8]
 }
 
 // The slot at a moment of the first writes of a list, whose bytes lie one after the other.
-pub fn slot_at(slot: &mut [u8], places: [Place; 516], count: usize, bytes: &[u8], moment: usize)
+pub fn slot_at(
+    slot: &mut [u8],
+    places: [Place; MOST_WRITES],
+    count: usize,
+    bytes: &[u8],
+    moment: usize,
+)
     ensures { λ _. ⌜ now (slot .exit) ≡ slotAt (now (slot .entry)) (writesIn (take count places) (now (bytes .entry))) moment ⌝ }
 {
     let most = least(count, MOST_WRITES);
@@ -82,8 +92,14 @@ pub fn slot_at(slot: &mut [u8], places: [Place; 516], count: usize, bytes: &[u8]
 }
 
 // One byte more of the first writes of a list.
-fn next_first(slot: &mut [u8], places: [Place; 516], count: usize, bytes: &[u8], moment: usize)
-    requires { ⌜ count ≤ 516 ⌝ }
+fn next_first(
+    slot: &mut [u8],
+    places: [Place; MOST_WRITES],
+    count: usize,
+    bytes: &[u8],
+    moment: usize,
+)
+    requires { ⌜ count ≤ mostWrites ⌝ }
     ensures { λ _. ⌜ ((s : List ℕ) → now (slot .entry) ≡ slotAt s (writesIn (take count places) (now (bytes .entry))) moment → now (slot .exit) ≡ slotAt s (writesIn (take count places) (now (bytes .entry))) (moment + 1)) ⌝ }
 {
     let mut i: usize = 0;
@@ -104,7 +120,13 @@ fn next_first(slot: &mut [u8], places: [Place; 516], count: usize, bytes: &[u8],
 }
 
 // The slot at the moment after this one.
-pub fn next_moment(slot: &mut [u8], places: [Place; 516], count: usize, bytes: &[u8], moment: usize)
+pub fn next_moment(
+    slot: &mut [u8],
+    places: [Place; MOST_WRITES],
+    count: usize,
+    bytes: &[u8],
+    moment: usize,
+)
     ensures { λ _. ⌜ ((s : List ℕ) → now (slot .entry) ≡ slotAt s (writesIn (take count places) (now (bytes .entry))) moment → now (slot .exit) ≡ slotAt s (writesIn (take count places) (now (bytes .entry))) (moment + 1)) ⌝ }
 {
     let most = least(count, MOST_WRITES);

@@ -10,7 +10,7 @@ use lib.ListN.{length, getD, set, drop, replicate, length-append, length-drop, l
 use lib.Seq.{set-at, append-snoc, drop-cons, getD-set-same, getD-set-other}
 use borrow.Author.Count.{below-more}
 use Rattle.layout.specs.Lists.{firstIndex}
-use Rattle.layout.specs.Records.{Read, readHeader}
+use Rattle.layout.specs.Records.{Read, readHeader, fileHeaderSize}
 use Rattle.layout.specs.declared.BlockHeader.{BlockHeader}
 use Rattle.reader.specs.declared.LoopStart.{LoopStart}
 use Rattle.reader.specs.declared.answers.WalkReply.{WalkReply}
@@ -93,17 +93,17 @@ pub record Walking (s places offsets : List ℕ) (count current : ℕ) : Type 0 
   pub long : length seen ≡ count
   pub few : count ≤ length places
   pub is : offsets ≡ over seen places
-  pub same : walkFrom (length places) s [] 128 ≡ walkFrom (length places - count) s seen current
+  pub same : walkFrom (length places) s [] fileHeaderSize ≡ walkFrom (length places - count) s seen current
 
-pub walking-none : (s places : List ℕ) → Walking s places places 0 128
+pub walking-none : (s places : List ℕ) → Walking s places places 0 fileHeaderSize
 walking-none s ps =
     let e : length ps ≡ length ps - 0 = omega arith in
-    record { seen = []; long = refl; few = omega arith; is = refl; same = ap (λ (n : ℕ). walkFrom n s [] 128) e }
+    record { seen = []; long = refl; few = omega arith; is = refl; same = ap (λ (n : ℕ). walkFrom n s [] fileHeaderSize) e }
 
 -- What a walk is to come to: its answer, and what it leaves of the places.
 pub record Walks (s places : List ℕ) (w : Walk) (offsets : List ℕ) : Type 0 where
-  pub answer : w ≡ walkOf (walkFrom (length places) s [] 128)
-  pub left : offsets ≡ walkedOver places (walkFrom (length places) s [] 128)
+  pub answer : w ≡ walkOf (walkFrom (length places) s [] fileHeaderSize)
+  pub left : offsets ≡ walkedOver places (walkFrom (length places) s [] fileHeaderSize)
 
 module _ {s ps offsets : List ℕ} {count current : ℕ} (w : Walking s ps offsets count current) where
   pub wide : length offsets ≡ length ps
@@ -116,7 +116,7 @@ module _ {s ps offsets : List ℕ} {count current : ℕ} (w : Walking s ps offse
   wide-set = length-set offsets count current ∙ wide
 
   -- a refused walk
-  refuses : {n : ℕ} → walkFrom (length ps) s [] 128 ≡ Walked.refused n → {q : Walk} {os : List ℕ} → q ≡ noWalk n → os ≡ replicate (length offsets) 0 → Walks s ps q os
+  refuses : {n : ℕ} → walkFrom (length ps) s [] fileHeaderSize ≡ Walked.refused n → {q : Walk} {os : List ℕ} → q ≡ noWalk n → os ≡ replicate (length offsets) 0 → Walks s ps q os
   unfolding walkedOver
   refuses e f g = record { answer = rw e f; left = rw e (rw wide at g) }
 
@@ -131,7 +131,7 @@ module _ {s ps offsets : List ℕ} {count current : ℕ} (w : Walking s ps offse
     room : count < length ps
     room = omega (arith, wide)
 
-    more : walkFrom (length ps) s [] 128 ≡ walkFrom (suc (length ps - (count + 1))) s (w .seen) current
+    more : walkFrom (length ps) s [] fileHeaderSize ≡ walkFrom (suc (length ps - (count + 1))) s (w .seen) current
     more =
         let e : length ps - count ≡ suc (length ps - (count + 1)) = omega (arith, room) in
         w .same ∙ ap (λ (n : ℕ). walkFrom n s (w .seen) current) e
@@ -163,7 +163,7 @@ module _ {s ps offsets : List ℕ} {count current : ℕ} (w : Walking s ps offse
     at1 k l = rw is1 (over-at seen1 ps k (omega (arith, long1)))
 
     -- the loop's locals make the answer
-    made1 : (start : LoopStart) → walkFrom (length ps) s [] 128 ≡ Walked.walked seen1 start
+    made1 : (start : LoopStart) → walkFrom (length ps) s [] fileHeaderSize ≡ Walked.walked seen1 start
         → Walks s ps (record { reply = walkReply start; count = count + 1 }) (set offsets count current)
     unfolding walkedOver
     made1 start e = record { answer = rw (e, long1); left = rw e is1 }

@@ -4,7 +4,7 @@ use mathlib.Core.List.{List, [], _∷_}
 use lib.ListN.{length}
 use lib.Dec.{ltb}
 use Rattle.layout.specs.Lists.{sum}
-use Rattle.layout.specs.Records.{P, adpcmBytes}
+use Rattle.layout.specs.Records.{P, adpcmBytes, fileHeaderSize, blockHeaderSize, alignment}
 use Rattle.layout.specs.Refusals.{Due, due, firstDue, wrongCount, blockLimit, tooShort, tooLarge}
 use Rattle.writer.specs.Loading.{Answer, answerBy}
 
@@ -19,7 +19,7 @@ estimateRefusal ch ns = firstDue (due 3 (wrongCount ch) ∷ due 5 (ltb blockLimi
 
 -- "128 + Σ(32 + channels × P(bytes)) + 32p"
 unfoldable pub estimated : (channels : ℕ) → (lengths : List ℕ) → (p : ℕ) → ℕ
-estimated ch ns p = 128 + sum (λ n. 32 + ch * P (adpcmBytes n)) ns + 32 * p
+estimated ch ns p = fileHeaderSize + sum (λ n. blockHeaderSize + ch * P (adpcmBytes n)) ns + alignment * p
 
 -- "The estimate takes block lengths, channel count and a u32 number p of point and range cues, and gives a u64"
 unfoldable pub estimateOf : (channels : ℕ) → (lengths : List ℕ) → (p : ℕ) → Answer

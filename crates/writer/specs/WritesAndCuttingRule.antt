@@ -1,8 +1,9 @@
 -- Writes and the cutting rule (document 01).
-use Prim.Native.Nat.{ℕ, suc}
+use Prim.Native.Nat.{ℕ, suc, _+_}
 use mathlib.Core.Path.{_≡_}
 use mathlib.Core.List.{List, [], _∷_, _++_}
 use lib.ListN.{length, take, drop}
+use Rattle.layout.specs.Refusals.{blockLimit}
 use Rattle.layout.specs.Lists.{put}
 use Rattle.layout.specs.Types.{Bytes}
 use Rattle.writer.specs.declared.Place.{Place}
@@ -17,6 +18,10 @@ pub record Write : Type 0 where
 -- A write of these bytes at this offset.
 abbrev pub write : ℕ → List ℕ → Write
 write at bs = record { offset = at; bytes = bs }
+
+-- As many writes as a loading hands out: begin's, each block's, finish's three.
+abbrev pub mostWrites : ℕ
+mostWrites = 1 + blockLimit + 3
 
 -- "it hands out writes (offset, length, bytes in a lent buffer)": offset and length
 abbrev pub placeOf : Write → Place

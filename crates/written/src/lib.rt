@@ -2,6 +2,7 @@
 use layout::BlockHeader;
 use layout::FrameContext;
 use layout::fields::inside;
+use layout::limits::BLOCK_HEADER_SIZE;
 use puts::put_bytes;
 use puts::put_context;
 use puts::put_u16;
@@ -37,7 +38,7 @@ fn put_block_context(buf: &mut [u8], at: usize, c: FrameContext)
 pub fn put_header(buf: &mut [u8], at: usize, h: BlockHeader)
     ensures { λ _. ⌜ now (buf .exit) ≡ putAt (now (buf .entry)) at (headerPut h) ⌝ }
 {
-    if inside(buf.len(), at, 32) {
+    if inside(buf.len(), at, BLOCK_HEADER_SIZE) {
         put_words(buf, at, h.size, h.end_address, h.next_offset);
         let left = h.left;
         put_block_context(buf, at + 12, left);

@@ -3,6 +3,7 @@ use native.Mathlib.Omega.{arith}
 use Rattle.cue_writer.proofs.CueCallLaws.{cue-21, cue-8, cue-equal, cue-20, cue-fine}
 use Rattle.cue_writer.proofs.cue_due.Statement.{statement}
 use Rattle.cue_writer.proofs.cue_due.Tie as tie
+use Rattle.layout.specs.Refusals.{cueLimit}
 
 returns : tie.Need-returns
 returns c =
@@ -26,14 +27,14 @@ returns-4 : tie.Need-returns-4
 returns-4 c =
     let a = c .before .before .before .before .args in
     let h : a .blocks ≤ 0 = omega arith in
-    let h₂ : 128 ≤ a .count = omega arith in
+    let h₂ : cueLimit ≤ a .count = omega arith in
     search cue-20
 
 returns-5 : tie.Need-returns-5
 returns-5 c =
     let a = c .before .before .before .before .args in
     let h : a .blocks ≤ 0 = omega arith in
-    let h₂ : a .count < 128 = omega arith in
+    let h₂ : a .count < cueLimit = omega arith in
     search cue-fine
 
 pub cue-due-spec : {M : Type 1} → statement M

@@ -5,7 +5,7 @@ use native.Mathlib.Omega.{arith}
 use lib.ListN.{length}
 use denote.Ref.{now}
 use borrow.Author.Needs.{needs}
-use Rattle.layout.specs.Records.{be32, magic, channelBytes, fileHeaderBytes}
+use Rattle.layout.specs.Records.{be32, magic, channelBytes, fileHeaderBytes, fileHeaderSize}
 use Rattle.layout.specs.Puts.{putAt}
 use Rattle.layout.proofs.Lengths.{channel-length, file-header-length}
 use Rattle.layout.proofs.FieldLaws.{passed, failed}
@@ -19,7 +19,7 @@ use Rattle.layout.proofs.fields.inside.Reads as inside-reads
 use Rattle.header_bytes.proofs.put_channel.Reads as put-channel-reads
 use Rattle.header_bytes.proofs.put_magic.Reads as put-magic-reads
 
-room : (c : tie.Then1) → 0 + 128 ≤ length (now (c .before .before .before .args .buf))
+room : (c : tie.Then1) → 0 + fileHeaderSize ≤ length (now (c .before .before .before .args .buf))
 room c = passed (c .before .inside .ensures) (c .if1 .taken)
 
 left-sixteen : (c : tie.Then1) → length (c .before .before .before .args .left .coefficients) ≡ 16

@@ -25,6 +25,7 @@ use Rattle.kept_puts.proofs.put_numbers.Reads as put-numbers-reads
 use Rattle.kept_record.proofs.put_sides.Reads as put-sides-reads
 use Rattle.kept_writer.proofs.loader.mode_of.Reads as mode-of-reads
 use Rattle.writer.proofs.begin.Reads as begin-reads
+use Rattle.kept_sides.specs.KeptSides.{loaderSize}
 
 -- begin, by the mode's number
 begun : (b : tie.After-begin) → let a = b .before .before .before .before .before .before .before .args in
@@ -44,7 +45,7 @@ returns : tie.Need-returns
 returns c =
     let a = c .before .before .before .before .args in
     let e = c .refused .ensures in
-    rw (lt-ltb (length (a .kept .now)) 3256 (c .before .if1 .taken))
+    rw (lt-ltb (length (a .kept .now)) loaderSize (c .before .if1 .taken))
     (e, (leaves _ _ _ 252 e refl, (leaves _ _ _ 252 e refl, leaves _ _ _ 252 e refl)))
 
 refused-requires-2 : tie.Need-refused-requires-2
@@ -54,7 +55,7 @@ returns-2 : tie.Need-returns-2
 returns-2 c =
     let a = c .before .before .before .before .before .args in
     let e = c .refused2 .ensures in
-    rw (le-ltb (length (a .kept .now)) 3256 (c .before .before .if1 .left), lt-ltb 2 (a .mode) (c .before .if2 .taken))
+    rw (le-ltb (length (a .kept .now)) loaderSize (c .before .before .if1 .left), lt-ltb 2 (a .mode) (c .before .if2 .taken))
     (e, (leaves _ _ _ 253 e refl, (leaves _ _ _ 253 e refl, leaves _ _ _ 253 e refl)))
 
 mode-of-requires : tie.Need-mode-of-requires
@@ -94,7 +95,7 @@ returns-3 c =
     let r = c .before .before .reply .given .1 in
     let e = c .refused3 .ensures in
     let k = begin-number (a .slot) (a .channels) (modeOf (a .mode)) (a .lent .now) _ (told .0) _ r in
-    rw (le-ltb (length (a .kept .now)) 3256 (b .before .before .before .before .if1 .left), le-ltb 2 (a .mode) (b .before .before .before .if2 .left)) (
+    rw (le-ltb (length (a .kept .now)) loaderSize (b .before .before .before .before .if1 .left), le-ltb 2 (a .mode) (b .before .before .before .if2 .left)) (
       e ∙ begin-refused (a .slot) (a .channels) (modeOf (a .mode)) (a .lent .now) _ (told .0) _ r,
       (
         told .1 ∙ begin-lent (a .slot) (a .channels) (modeOf (a .mode)) (a .lent .now) _ (told .0) _ r ∙ leaves _ _ _ _ e k,
@@ -126,7 +127,7 @@ returns-4 c =
     (ap (λ (m : Stream). length (m .right .coefficients)) is ∙ sixteen .1)
     (c .before .before .put-sides .ensures)
     ∙ ap (λ (m : Stream). putAt k 0 (recordBytes m)) is in
-    rw (le-ltb (length (a .kept .now)) 3256 room, le-ltb 2 (a .mode) (b .before .before .before .if2 .left)) (
+    rw (le-ltb (length (a .kept .now)) loaderSize room, le-ltb 2 (a .mode) (b .before .before .before .if2 .left)) (
       begin-accepted (a .slot) (a .channels) (modeOf (a .mode)) (a .lent .now) _ (told .0) _ r,
       (
         told .1,

@@ -7,9 +7,10 @@ use Rattle.kept_opened.proofs.put_offsets.Tie as tie
 use Rattle.kept_opened.proofs.put_offsets.Reads as reads
 use Rattle.kept_opened.proofs.put_offsets.Lts as lts
 use Rattle.puts.proofs.put_u32.Reads as put-u32-reads
+use Rattle.layout.specs.Refusals.{blockLimit}
 
 abbrev Inv-loop : tie.InvT-loop
-Inv-loop kept₀ offsets n i₀ kept i = OffsetsPut kept₀ offsets n kept i × (n ≤ 512)
+Inv-loop kept₀ offsets n i₀ kept i = OffsetsPut kept₀ offsets n kept i × (n ≤ blockLimit)
 
 abbrev μ-loop : tie.MeasureT-loop
 μ-loop kept₀ offsets n i₀ kept i = n - i

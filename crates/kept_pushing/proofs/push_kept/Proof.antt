@@ -12,7 +12,7 @@ use Rattle.push_plan.specs.declared.Stream.{Stream}
 use Rattle.push_plan.specs.PushPlan.{endFrom, loopFrom, planOf, advanced}
 use Rattle.layout.specs.Puts.{putAt}
 use Rattle.taking.specs.Taking.{filledBytes}
-use Rattle.kept_sides.specs.KeptSides.{tableIn}
+use Rattle.kept_sides.specs.KeptSides.{tableIn, cuesAt}
 use Rattle.kept_writer.specs.KeptWriter.{streamIn, writerIn, takenIn, heldIn}
 use Rattle.kept_writer.proofs.KeptLaws.{kept-good, loop-same}
 use Rattle.block_writer.proofs.PushLaws.{push-refused, push-accepted, sound, to-within, few-points, are-taken, Worked, due-is, passes, starts, totals, sized, room, bytes-are}
@@ -73,7 +73,7 @@ worked p =
       takes = takes (p .before .before .before);
       loops =
           ap (λ (b : Bool). loopFrom (streamIn k) b (p .before .before .before .take-kept .result .asked) (p .before .before .before .before .before .block-end .result) (s .args .last))
-          (p .before .held-kept .ensures ∙ ap (λ (m : Stream). heldIn (m .mode) (m .loopat) (anyLoop (slice 0 (m .count) (tableIn k 184 (m .count))))) (stream e))
+          (p .before .held-kept .ensures ∙ ap (λ (m : Stream). heldIn (m .mode) (m .loopat) (anyLoop (slice 0 (m .count) (tableIn k cuesAt (m .count))))) (stream e))
           ∙ loop-same (streamIn k) _ _ _ _;
       plans =
           p .plan-push .ensures
@@ -225,7 +225,7 @@ returns-3 c =
     let w = worked p in
     let z = d .if2 .left in
     let put = c .before .before .before .before .before .before .before .before .before .before .before .put-taken-kept .ensures
-    ∙ ap (λ (m : Stream). putAt (c .before .before .before .before .before .before .before .before .before .before .before .before .before .before .before .before .put-header .last .0) 32 (filledBytes (m .base) (m .id) (slice (m .next) (p .before .before .before .take-kept .result .to) (tableIn k 184 (m .count))))) (stream e) in
+    ∙ ap (λ (m : Stream). putAt (c .before .before .before .before .before .before .before .before .before .before .before .before .before .before .before .before .put-header .last .0) 32 (filledBytes (m .base) (m .id) (slice (m .next) (p .before .before .before .take-kept .result .to) (tableIn k cuesAt (m .count))))) (stream e) in
     let b = bytes-are w z _ _ _ (c .before .before .before .before .before .before .before .before .before .before .before .before .before .before .before .before .put-header .ensures) put (c .before .before .before .before .before .before .before .put-data .ensures) in
     let q = push-accepted (writerIn k) (pushed s) (s .args .lent .now) _ (due-is w) z _ _ _ refl (sized w z) (room w z .1) b in
     let r = on-record k (pushOf (writerIn k) (pushed s) (s .args .lent .now)) (some e) _ (q .0) in

@@ -1,7 +1,7 @@
 use denote.Ref.{now}
 use lib.ListN.{length}
 use borrow.Author.Tests.{lt-ltb, le-ltb, eq-eqb, ne-eqb}
-use Rattle.kept_sides.specs.KeptSides.{sidesShort}
+use Rattle.kept_sides.specs.KeptSides.{sidesShort, sideSize}
 use Rattle.kept_sides.proofs.sides_short.Statement.{statement}
 use Rattle.kept_sides.proofs.sides_short.Tie as tie
 use Rattle.kept_sides.proofs.sides_short.Reads as reads
@@ -9,15 +9,15 @@ use Rattle.kept_sides.proofs.sides_short.Lts as lts
 
 returns : tie.Need-returns
 unfolding sidesShort
-returns c = rw (lt-ltb (length (now (c .before .args .left))) 48 (c .if1 .taken))
+returns c = rw (lt-ltb (length (now (c .before .args .left))) sideSize (c .if1 .taken))
 
 returns-2 : tie.Need-returns-2
 unfolding sidesShort
-returns-2 c = rw (le-ltb (length (now (c .before .before .args .left))) 48 (c .before .if1 .left), ne-eqb (c .before .before .args .channels) 2 (c .if2 .taken))
+returns-2 c = rw (le-ltb (length (now (c .before .before .args .left))) sideSize (c .before .if1 .left), ne-eqb (c .before .before .args .channels) 2 (c .if2 .taken))
 
 returns-3 : tie.Need-returns-3
 unfolding sidesShort
-returns-3 c = rw (le-ltb (length (now (c .before .before .args .left))) 48 (c .before .if1 .left), eq-eqb (c .before .before .args .channels) 2 (c .if2 .left))
+returns-3 c = rw (le-ltb (length (now (c .before .before .args .left))) sideSize (c .before .if1 .left), eq-eqb (c .before .before .args .channels) 2 (c .if2 .left))
 
 pub sides-short-spec : {M : Type 1} → statement M
 sides-short-spec = tie.close (tie.spec returns returns-2 returns-3)

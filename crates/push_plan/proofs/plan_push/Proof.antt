@@ -2,7 +2,7 @@ use Prim.Native.Nat.{_+_, _≤_}
 use mathlib.Core.Path.{_≡_, refl, ap, sym, _∙_}
 use native.Mathlib.Omega.{arith}
 use lib.ListN.{length}
-use Rattle.layout.specs.Refusals.{firstDue}
+use Rattle.layout.specs.Refusals.{firstDue, lengthLimit}
 use Rattle.push_due.specs.PushDue.{roomDue}
 use Rattle.writer.specs.Calls.{orAt}
 use Rattle.push_plan.specs.PushPlan.{sizeFor, loopFrom}
@@ -42,7 +42,7 @@ start c = c .before .before .before .before
 early-none : (c : tie.Else1) → Passing (start c .args .s .blocks) (start c .args .channels) (start c .args .left) (start c .args .left-bytes) (start c .args .right-bytes)
 early-none c = passing _ _ _ _ _ _ _ _ _ _ _ (c .before .early-due .ensures) (c .if1 .left)
 
-small : (c : tie.After-data-size) → c .data-size .result ≤ 131072
+small : (c : tie.After-data-size) → c .data-size .result ≤ lengthLimit
 small c =
     let h = early-none (c .before) in
     size-small _ _ _ _ (h .left) (h .right) (c .data-size .ensures)

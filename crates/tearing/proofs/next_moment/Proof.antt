@@ -3,7 +3,7 @@ use mathlib.Core.Path.{_≡_, ap, sym, _∙_}
 use mathlib.Core.List.{List}
 use lib.ListN.{length, take}
 use denote.Ref.{now}
-use Rattle.writer.specs.WritesAndCuttingRule.{writesIn}
+use Rattle.writer.specs.WritesAndCuttingRule.{writesIn, mostWrites}
 use Rattle.writer.specs.declared.Place.{Place}
 use Rattle.tearing.specs.Moments.{slotAt}
 use Rattle.tearing.proofs.ByteLaws.{same-take}
@@ -28,7 +28,7 @@ returns : tie.Need-returns
 returns c = λ s e.
     let b = c .before .before in
     let a = b .before .before .before .before .before .args in
-    let long : length (a .places) ≡ 516 = search needs in
+    let long : length (a .places) ≡ mostWrites = search needs in
     let at : (m : ℕ) → slotAt s (writesIn (take (b .before .before .least .result) (a .places)) (now (a .bytes))) m ≡ slotAt s (writesIn (take (a .count) (a .places)) (now (a .bytes))) m = λ m. ap (λ (ps : List Place). slotAt s (writesIn ps (now (a .bytes))) m) (same-take (a .count) (a .places) (b .before .before .least .ensures ∙ ap (min (a .count)) (sym long))) in
     b .next-first .ensures s (e ∙ sym (at (a .moment))) ∙ at (a .moment + 1)
 

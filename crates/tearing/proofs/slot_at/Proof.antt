@@ -4,7 +4,7 @@ use mathlib.Core.List.{List}
 use lib.ListN.{length}
 use denote.Ref.{now}
 use borrow.Author.Needs.{needs}
-use Rattle.writer.specs.WritesAndCuttingRule.{writesIn}
+use Rattle.writer.specs.WritesAndCuttingRule.{writesIn, mostWrites}
 use Rattle.writer.specs.declared.Place.{Place}
 use Rattle.tearing.specs.Moments.{slotAt}
 use Rattle.tearing.proofs.ByteLaws.{same-take}
@@ -24,7 +24,7 @@ returns : tie.Need-returns
 returns c =
     let b = c .before .before in
     let a = b .before .before .before .before .before .args in
-    let long : length (a .places) ≡ 516 = search needs in
+    let long : length (a .places) ≡ mostWrites = search needs in
     b .carry-first .ensures
     ∙ ap (λ (ps : List Place). slotAt (now (a .slot)) (writesIn ps (now (a .bytes))) (a .moment)) (same-take (a .count) (a .places) (b .before .before .least .ensures ∙ ap (min (a .count)) (sym long)))
 

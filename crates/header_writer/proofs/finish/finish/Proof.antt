@@ -5,6 +5,7 @@ use Rattle.header_writer.proofs.FinishLaws.{refused-answer, refused-len
 use borrow.Author.Needs.{needs}
 use Rattle.header_writer.proofs.finish.finish.Statement.{statement}
 use Rattle.header_writer.proofs.finish.finish.Tie as tie
+use Rattle.layout.specs.Records.{fileHeaderSize}
 
 finish-due-requires : tie.Need-finish-due-requires
 finish-due-requires c κs = search needs
@@ -24,7 +25,7 @@ header-requires c κs =
 slice-aggregate-hand-out : tie.Need-slice-aggregate-hand-out
 slice-aggregate-hand-out c = search needs
 
-size : (c : tie.After-header) → length (c .header .result) ≡ 128
+size : (c : tie.After-header) → length (c .header .result) ≡ fileHeaderSize
 size c = search needs
 
 hand-out-requires : tie.Need-hand-out-requires

@@ -9,6 +9,7 @@ use Rattle.hps.proofs.loading.hps_begin.Tie as tie
 use Rattle.hps.proofs.loading.hps_begin.Reads as reads
 use Rattle.hps.proofs.loading.hps_begin.Lts as lts
 use Rattle.kept_loading.proofs.begin_kept.Reads as begin-kept-reads
+use Rattle.kept_sides.specs.KeptSides.{loaderSize}
 
 begin-kept-requires : tie.Need-begin-kept-requires
 begin-kept-requires c κs = search needs
@@ -25,7 +26,7 @@ returns c =
     let a = u .before .before .before .before .before .args in
     let e = u .begin-kept .ensures in
     let z = c .if1 .taken in
-    let q = past _ z (ltb 2 (a .mode)) 252 (past _ z (ltb (length (a .kept .now)) 3256) 251 (e .0)) in
+    let q = past _ z (ltb 2 (a .mode)) 252 (past _ z (ltb (length (a .kept .now)) loaderSize) 251 (e .0)) in
     (ap (λ (x : KeptCall). x .number) (e .0), given _ _ _ z (ap (λ (x : KeptCall). x .offset) q), given _ _ _ z (ap (λ (x : KeptCall). x .length) q), e .1 .0, e .1 .1 .0, e .1 .1 .1)
 
 same-length-3 : tie.Need-same-length-3

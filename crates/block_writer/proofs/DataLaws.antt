@@ -17,27 +17,27 @@ use Rattle.layout.proofs.Cases.{by-cases}
 use Rattle.puts.proofs.PutLaws.{put-then}
 use Rattle.written.specs.HeaderPut.{headerPut}
 use Rattle.written.proofs.WrittenLaws.{put-length-32, header-put-is}
-use Rattle.writer.specs.Loading.{points, pointsOf}
+use Rattle.writer.specs.Loading.{dataIn, secondContext, points, pointsOf, dataSize}
 use Rattle.writer.specs.declared.ChannelBlock.{ChannelBlock}
 use Rattle.writer.specs.declared.Cue.{Cue}
 use Rattle.writer.proofs.CueLaws.{points-length}
+use Rattle.writer.proofs.WriteLaws.{data-size}
 use Rattle.taking.specs.Taking.{pointBytes, filledBytes}
 use Rattle.taking.proofs.PointLaws.{taken-length}
-use Rattle.push_plan.specs.PushPlan.{paddedSize, secondContext, headerIn}
-use Rattle.block_writer.specs.PushData.{dataIn}
+use Rattle.push_plan.specs.PushPlan.{headerIn}
 use Rattle.layout.specs.Refusals.{cueLimit}
 
 -- ---- The data
 
 module _ (l x z : List ℕ) (at ch : ℕ) where
   pub mono-put : (b : List ℕ) → (ch ≡ 2 → ⊥) → b ≡ putAt l at (padded x) → b ≡ putAt l at (concat padded (dataIn ch x z))
-  unfolding dataIn concat
+  unfolding concat
   mono-put b h e = rw (ne-eqb ch 2 h, append-nil) e
 
-  module _ (h : ch ≡ 2) (long : length x < 9223372036854775808) (room : at + paddedSize ch (length x) (length z) ≤ length l)
+  module _ (h : ch ≡ 2) (long : length x < 9223372036854775808) (room : at + dataSize ch (length x) (length z) ≤ length l)
       (y : ℕ) (ey : y ≡ saturated (P (length x))) where
-    both : paddedSize ch (length x) (length z) ≡ P (length x) + P (length z)
-    unfolding paddedSize
+    both : dataSize ch (length x) (length z) ≡ P (length x) + P (length z)
+    unfolding dataSize
     both = rw (eq-eqb ch 2 h)
 
     exact : y ≡ P (length x)
@@ -47,19 +47,15 @@ module _ (l x z : List ℕ) (at ch : ℕ) where
     second-place = omega (arith, both, exact)
 
     pub stereo-put : (b b′ : List ℕ) → b ≡ putAt l at (padded x) → b′ ≡ putAt b (at + y) (padded z) → b′ ≡ putAt l at (concat padded (dataIn ch x z))
-    unfolding dataIn concat
+    unfolding concat
     stereo-put b b′ e f =
         rw (eq-eqb ch 2 h, append-nil)
         (put-then (record { size = padded-length x; is = e }) (padded z) (padded-length z) f (ap (λ (m : ℕ). at + m) exact) (omega (arith, both)) .is)
 
-pub data-size : (ch : ℕ) (l r : List ℕ) → sizeOf (dataIn ch l r) ≡ paddedSize ch (length l) (length r)
-unfolding sizeOf sum dataIn paddedSize
-data-size ch l r = by-cases (eqb ch 2) (λ q. rw q (omega arith)) (λ q. rw q (omega arith))
-
 -- ---- The whole block
 
 module _ (base id k ch : ℕ) (cs : List Cue) (l r : ChannelBlock) (ld rd o : List ℕ) (next : ℕ)
-    (counted : k ≡ points cs) (few : k ≤ cueLimit) (room : dataAfter k + paddedSize ch (length ld) (length rd) ≤ length o) where
+    (counted : k ≡ points cs) (few : k ≤ cueLimit) (room : dataAfter k + dataSize ch (length ld) (length rd) ≤ length o) where
   abbrev head : BlockHeader
   head = headerIn k ch l r (length ld) (length rd) next
 
@@ -68,7 +64,7 @@ module _ (base id k ch : ℕ) (cs : List Cue) (l r : ChannelBlock) (ld rd o : Li
   unfolding headerIn blockBytes blockHeader filledBytes pointBytes
   parts =
       let a = header-put-is head (omega arith) in
-      let b : paddedSize ch (length ld) (length rd) ≡ sizeOf (dataIn ch ld rd) = sym (data-size ch ld rd) in
+      let b : dataSize ch (length ld) (length rd) ≡ sizeOf (dataIn ch ld rd) = sym (data-size ch ld rd) in
       let c : k ≡ length (pointsOf base id cs) = counted ∙ sym (points-length base id cs) in
       rw (a, b, c, ← points-length base id cs) (simp append-assoc)
 
@@ -77,7 +73,7 @@ module _ (base id k ch : ℕ) (cs : List Cue) (l r : ChannelBlock) (ld rd o : Li
       → b₃ ≡ putAt o 0 (blockBytes next (l .length) (l .context) (secondContext ch r) (pointsOf base id cs) (dataIn ch ld rd))
   block-put h eh b₁ b₂ b₃ x ex e₁ e₂ e₃ =
       let lf : length (filledBytes base id cs) ≡ P (8 * k) = taken-length base id cs ∙ ap (λ (m : ℕ). P (8 * m)) (sym counted) in
-      let le : length (concat padded (dataIn ch ld rd)) ≡ paddedSize ch (length ld) (length rd) = data-length (dataIn ch ld rd) ∙ data-size ch ld rd in
+      let le : length (concat padded (dataIn ch ld rd)) ≡ dataSize ch (length ld) (length rd) = data-length (dataIn ch ld rd) ∙ data-size ch ld rd in
       let p₁ = put-then (record { size = put-length-32 head; is = e₁ ∙ ap (λ (m : BlockHeader). putAt o 0 (headerPut m)) eh }) (filledBytes base id cs) lf e₂ (omega arith) (omega arith) in
       let p₂ = put-then p₁ (concat padded (dataIn ch ld rd)) le e₃ (omega arith) (omega arith) in
       p₂ .is ∙ ap (putAt o 0) parts

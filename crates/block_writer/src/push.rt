@@ -2,7 +2,6 @@
 use block_parts::put_padded;
 use layout::limits::BLOCK_HEADER_SIZE;
 use push_advance::advance;
-use push_plan::Stream;
 use push_plan::block_end;
 use push_plan::plan_push;
 use sizes::align;
@@ -22,68 +21,11 @@ ghost use Rattle.layout.specs.Lists.{concat};
 ghost use Rattle.layout.specs.Records.{padded};
 ghost use Rattle.layout.specs.Puts.{putAt};
 ghost use Rattle.writer.specs.Calls.{called, noPlace, pushOf, Good};
-ghost use Rattle.push_due.specs.PushDue.{pushArgs};
-ghost use Rattle.push_plan.specs.PushPlan.{streamOf, writerOf, paddedSize};
-ghost use Rattle.block_writer.specs.PushData.{dataIn};
-
-// The record without its table of cues.
-pub fn stream_of(w: HpsWriter) -> Stream
-    ensures { λ s. ⌜ s ≡ streamOf w ⌝ }
-{
-    let mode = w.mode;
-    let loopat = w.loopat;
-    let left = w.left;
-    let right = w.right;
-    Stream {
-        slot: w.slot,
-        channels: w.channels,
-        mode,
-        count: w.count,
-        next: w.next,
-        id: w.id,
-        base: w.base,
-        offset: w.offset,
-        loopat,
-        blocks: w.blocks,
-        sum: w.sum,
-        left,
-        right,
-        last: w.last,
-        finished: w.finished,
-    }
-}
-
-// The record with another stream: the table stays.
-fn with_stream(w: HpsWriter, s: Stream) -> HpsWriter
-    ensures { λ r. ⌜ r ≡ writerOf (w .cues) s ⌝ }
-{
-    let mode = s.mode;
-    let loopat = s.loopat;
-    let left = s.left;
-    let right = s.right;
-    HpsWriter {
-        slot: s.slot,
-        channels: s.channels,
-        mode,
-        count: s.count,
-        next: s.next,
-        id: s.id,
-        base: s.base,
-        offset: s.offset,
-        loopat,
-        blocks: s.blocks,
-        sum: s.sum,
-        left,
-        right,
-        last: s.last,
-        finished: s.finished,
-        ..w
-    }
-}
+ghost use Rattle.writer.specs.Loading.{pushArgs, dataIn, dataSize};
 
 // Each channel's data, padded.
 pub fn put_data(buf: &mut [u8], at: usize, channels: usize, left: &[u8], right: &[u8])
-    requires { ⌜ at + paddedSize channels (length (now left)) (length (now right)) ≤ length (now buf) ⌝ }
+    requires { ⌜ at + dataSize channels (length (now left)) (length (now right)) ≤ length (now buf) ⌝ }
     ensures { λ _. ⌜ now (buf .exit) ≡ putAt (now (buf .entry)) at (concat padded (dataIn channels (now (left .entry)) (now (right .entry)))) ⌝ }
 {
     put_padded(buf, at, left);
@@ -122,14 +64,17 @@ pub fn push(
     ensures { λ q. ⌜ now (lent .exit) ≡ pushOf w (pushArgs channels left right (now («left_data» .entry)) (now («right_data» .entry)) last) (now (lent .entry)) .lent ⌝ }
     ensures { λ q. ⌜ Good (q .writer) ⌝ }
 {
-    let s = stream_of(w);
-    let cues = w.cues;
-    let end = block_end(w.base, left.length);
-    let taken = take(cues, w.next, w.count, end, last);
-    let held = any_loop(cues, w.count);
+    let setup = w.setup;
+    let s = w.stream;
+    let cues = w.table.cues;
+    let count = w.table.count;
+    let end = block_end(s.base, left.length);
+    let taken = take(cues, s.next, count, end, last);
+    let held = any_loop(cues, count);
     let left_bytes = left_data.len();
     let right_bytes = right_data.len();
     let plan = plan_push(
+        setup,
         s,
         taken,
         held,
@@ -151,22 +96,21 @@ pub fn push(
         lent,
         BLOCK_HEADER_SIZE,
         cues,
-        w.next,
+        s.next,
         taken.to,
-        w.base,
-        w.id,
+        s.base,
+        s.id,
         taken.points,
     );
     put_data(lent, plan.start, channels, left_data, right_data);
     let loopat = plan.loopat;
-    let after = advance(s, taken, end, plan.size, loopat, left, right, last);
-    let writer = with_stream(w, after);
+    let stream = advance(s, taken, end, plan.size, loopat, left, right, last);
     Called {
         reply: Reply::Accepted(0),
         place: Place {
-            offset: w.offset,
+            offset: s.offset,
             length: plan.size,
         },
-        writer,
+        writer: HpsWriter { stream, ..w },
     }
 }

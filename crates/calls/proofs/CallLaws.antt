@@ -26,14 +26,13 @@ use Rattle.script.specs.declared.channels.ChannelLine.{ChannelLine}
 use Rattle.script.proofs.kinds.Kind.{the-type}
 use Rattle.script.proofs.LineLaws.{not-kind}
 use Rattle.script_order.specs.Order.{sidesIn}
-use Rattle.writer.specs.Loading.{Call, cue, push, finish, has, cueRefusal}
+use Rattle.writer.specs.Loading.{Call, cue, push, finish, has, cueRefusal, pushArgs}
 use Rattle.writer.specs.Calls.{cued, held, afterCue, cueOf, pushOf, finishOf, Good}
 use Rattle.writer.specs.declared.Cue.{Cue}
 use Rattle.writer.specs.declared.HpsWriter.{HpsWriter}
 use Rattle.writer.specs.declared.Reply.{Reply}
 use Rattle.writer.specs.declared.Cued.{Cued}
 use Rattle.writer.proofs.ServerLaws.{cue-writes}
-use Rattle.push_due.specs.PushDue.{pushArgs}
 use Rattle.power_cut.specs.PowerCut.{step, writesOf}
 use Rattle.noted.specs.declared.Noted.{Noted}
 use Rattle.noted_calls.specs.NotedCalls.{lentOf, Tally, MadeBy}
@@ -98,7 +97,7 @@ module _ {w : HpsWriter} {j : Noted} {kept : List ℕ} where
   unfolding cueOf afterCue
   cue-tally c t =
       let same : Tally j (afterCue w c) kept = by-cases (has c (held w)) (λ e. rw e t) (λ e. rw e (record { listed = t .listed; room = t .room; small = t .small; many = t .many; bytes = t .bytes })) in
-      by-cases (eqb (cueRefusal (w .blocks) (held w) c) 0) (λ e. rw e same) (λ e. rw e t)
+      by-cases (eqb (cueRefusal (w .stream .blocks) (held w) c) 0) (λ e. rw e same) (λ e. rw e t)
 
   pub cue-makes : (c : Cue) {q : Cued} → q ≡ cued (cueOf w c) → Good (q .writer) → Tally j w kept → Makes (cue c ∷ []) w j kept (record { writer = q .writer; reply = q .reply; noted = j }) kept
   unfolding writesOf

@@ -87,30 +87,30 @@ module _ (n : ℕ) (bad equal : Bool) (k : ℕ) where
 abbrev Answers : HpsWriter → Cue → Cued → Type 0
 Answers w c q = (q ≡ cued (cueOf w c)) × Good (q .writer)
 
-held-count : (w : HpsWriter) → Good w → length (held w) ≡ w .count
-held-count w g = length-take (w .count) (w .cues) ∙ omega (arith, g .few, g .table)
+held-count : (w : HpsWriter) → Good w → length (held w) ≡ w .table .count
+held-count w g = length-take (w .table .count) (w .table .cues) ∙ omega (arith, g .few, g .table)
 
 -- none is due, and no equal cue is held
 pub room-left : (n : ℕ) (b f : Bool) (k r : ℕ) → r ≡ cueOrder n b f k → r ≡ 0 → f ≡ false → k < cueLimit
 room-left n b f k r e z h = leb-false cueLimit k (rw h at (passed-cue _ _ _ (sym e ∙ z) .no20))
 
 is-due : (w : HpsWriter) (c : Cue) → Good w → (b f : Bool) (r : ℕ) → b ≡ (ltb startLimit (c .start) or zeroRange (c .kind)) → f ≡ has c (held w)
-    → r ≡ cueOrder (w .blocks) b f (w .count) → r ≡ cueRefusal (w .blocks) (held w) c
+    → r ≡ cueOrder (w .stream .blocks) b f (w .table .count) → r ≡ cueRefusal (w .stream .blocks) (held w) c
 is-due w c g b f r eb ef er = er ∙ rw (eb, ef, held-count w g)
 
 module _ (w : HpsWriter) (c : Cue) (g : Good w) {q : Cued} where
   and-good : q ≡ cued (cueOf w c) → Answers w c q
   and-good e = (e, rw e (cue-kept w g c))
 
-  refuses-with : (n : ℕ) → q ≡ record { reply = Refused n; writer = w } → cueRefusal (w .blocks) (held w) c ≡ n → (n ≡ 0 → ⊥) → Answers w c q
+  refuses-with : (n : ℕ) → q ≡ record { reply = Refused n; writer = w } → cueRefusal (w .stream .blocks) (held w) c ≡ n → (n ≡ 0 → ⊥) → Answers w c q
   unfolding cueOf
   refuses-with n e r h = and-good (e ∙ rw (r, ne-eqb n 0 h))
 
-  accepts-as : (v : HpsWriter) → q ≡ record { reply = Accepted 0; writer = v } → cueRefusal (w .blocks) (held w) c ≡ 0 → v ≡ afterCue w c → Answers w c q
+  accepts-as : (v : HpsWriter) → q ≡ record { reply = Accepted 0; writer = v } → cueRefusal (w .stream .blocks) (held w) c ≡ 0 → v ≡ afterCue w c → Answers w c q
   unfolding cueOf
   accepts-as v e r h = and-good (e ∙ rw (r, h))
 
-  module _ {b f : Bool} {r : ℕ} (eb : b ≡ (ltb startLimit (c .start) or zeroRange (c .kind))) (ef : f ≡ has c (held w)) (er : r ≡ cueOrder (w .blocks) b f (w .count)) where
+  module _ {b f : Bool} {r : ℕ} (eb : b ≡ (ltb startLimit (c .start) or zeroRange (c .kind))) (ef : f ≡ has c (held w)) (er : r ≡ cueOrder (w .stream .blocks) b f (w .table .count)) where
     pub refused-cue : q ≡ record { reply = Refused r; writer = w } → (r ≡ 0 → ⊥) → Answers w c q
     refused-cue e h = refuses-with r e (sym (is-due w c g b f r eb ef er)) h
 
@@ -119,15 +119,15 @@ module _ (w : HpsWriter) (c : Cue) (g : Good w) {q : Cued} where
       unfolding afterCue
       equal-cue e h = accepts-as w e (sym (is-due w c g b f r eb ef er) ∙ none) (rw (sym ef ∙ h))
 
-      pub new-cue : {i : ℕ} {u : List Cue} → q ≡ record { reply = Accepted 0; writer = withTable w u (w .count + 1) } → f ≡ false
-          → i ≡ firstIndex (before c) (held w) → u ≡ take i (w .cues) ++ (c ∷ (take (w .count - i) (drop i (w .cues)) ++ drop (w .count + 1) (w .cues)))
+      pub new-cue : {i : ℕ} {u : List Cue} → q ≡ record { reply = Accepted 0; writer = withTable w u (w .table .count + 1) } → f ≡ false
+          → i ≡ firstIndex (before c) (held w) → u ≡ take i (w .table .cues) ++ (c ∷ (take (w .table .count - i) (drop i (w .table .cues)) ++ drop (w .table .count + 1) (w .table .cues)))
           → Answers w c q
       unfolding afterCue
       new-cue {i} {u} e h ei eu =
-          let il : i ≤ w .count = omega (arith, place-most c (held w), held-count w g) in
-          let new : u ≡ insert c (held w) ++ drop (w .count + 1) (w .cues) =
-          eu ∙ rw (inserted c (held w), ← ei, take-take i (w .count) (w .cues) il, drop-take i (w .count) (w .cues)) (simp append-assoc) in
-          accepts-as (withTable w u (w .count + 1)) e (sym (is-due w c g b f r eb ef er) ∙ none) (rw (sym ef ∙ h, new))
+          let il : i ≤ w .table .count = omega (arith, place-most c (held w), held-count w g) in
+          let new : u ≡ insert c (held w) ++ drop (w .table .count + 1) (w .table .cues) =
+          eu ∙ rw (inserted c (held w), ← ei, take-take i (w .table .count) (w .table .cues) il, drop-take i (w .table .count) (w .table .cues)) (simp append-assoc) in
+          accepts-as (withTable w u (w .table .count + 1)) e (sym (is-due w c g b f r eb ef er) ∙ none) (rw (sym ef ∙ h, new))
 
-pub place-inside : (w : HpsWriter) (c : Cue) (i : ℕ) → i ≡ firstIndex (before c) (held w) → i ≤ w .count
-place-inside w c i e = omega (arith, place-most c (held w), length-take (w .count) (w .cues))
+pub place-inside : (w : HpsWriter) (c : Cue) (i : ℕ) → i ≡ firstIndex (before c) (held w) → i ≤ w .table .count
+place-inside w c i e = omega (arith, place-most c (held w), length-take (w .table .count) (w .table .cues))

@@ -6,6 +6,7 @@ use layout::limits::CUE_LIMIT;
 use layout::limits::START_LIMIT;
 use writer::Cue;
 use writer::CueKind;
+use writer::CueTable;
 use writer::Cued;
 use writer::HpsWriter;
 use writer::Reply;
@@ -76,10 +77,10 @@ pub fn cue(w: HpsWriter, c: Cue) -> Cued
 {
     let kind = c.kind;
     let bad = is_bad(c.start, kind);
-    let t = w.cues;
-    let n = w.count;
+    let t = w.table.cues;
+    let n = w.table.count;
     let held = holds(t, n, c);
-    let r = cue_due(w.blocks, bad, held, n);
+    let r = cue_due(w.stream.blocks, bad, held, n);
     if r != 0 {
         return refused(w, r);
     }
@@ -88,9 +89,7 @@ pub fn cue(w: HpsWriter, c: Cue) -> Cued
     }
     let i = place_of(t, n, c);
     let u = put_in(t, n, i, c);
-    accepted(HpsWriter {
-        cues: u,
-        count: n + 1,
-        ..w
-    })
+    let count = n + 1;
+    let table = CueTable { cues: u, count };
+    accepted(HpsWriter { table, ..w })
 }

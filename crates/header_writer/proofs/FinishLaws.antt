@@ -109,7 +109,7 @@ header-is b ch n k l r x y hl hr ex ey ek e =
 
 -- ---- What finish leaves
 
-module _ (w : HpsWriter) (lent : List ℕ) (g : Good w) (r : ℕ) (e : r ≡ finishRefusal (w .finished) (w .blocks) (w .last) (length lent)) where
+module _ (w : HpsWriter) (lent : List ℕ) (g : Good w) (r : ℕ) (e : r ≡ finishRefusal (w .finished) (w .stream .blocks) (w .stream .last) (length lent)) where
   abbrev Leaves : Finished → List ℕ → Type 0
   Leaves q l = (q ≡ finished (finishOf w lent)) × ((l ≡ finishOf w lent .lent) × Good (q .writer))
 
@@ -126,16 +126,16 @@ module _ (w : HpsWriter) (lent : List ℕ) (g : Good w) (r : ℕ) (e : r ≡ fin
     refused-good q eq = rw eq g
 
   module _ (z : r ≡ 0) where
-    pub sum-fits : (0 < w .sum) × (w .sum ≤ 4294967296)
+    pub sum-fits : (0 < w .stream .sum) × (w .stream .sum ≤ 4294967296)
     sum-fits =
-        let b = eqb-false (w .blocks) 0 (passed-finish _ _ _ _ (sym e ∙ z) .no27) in
+        let b = eqb-false (w .stream .blocks) 0 (passed-finish _ _ _ _ (sym e ∙ z) .no27) in
         omega (arith, g .counted, g .sums, g .many)
 
     pub room : fileHeaderSize ≤ length lent
     room = ltb-false (length lent) fileHeaderSize (passed-finish _ _ _ _ (sym e ∙ z) .no14)
 
     pub finish-accepted : (h l : List ℕ) (v : HpsWriter) → h ≡ headerOf w → length h ≡ fileHeaderSize → l ≡ handed (headerWrites h) ++ drop fileHeaderSize lent → v ≡ afterFinish w
-        → Leaves (record { reply = Accepted (w .offset); places = record { offset = 0; length = 15 } ∷ record { offset = 16; length = 112 } ∷ record { offset = 15; length = 1 } ∷ []; writer = v }) l
+        → Leaves (record { reply = Accepted (w .stream .offset); places = record { offset = 0; length = 15 } ∷ record { offset = 16; length = 112 } ∷ record { offset = 15; length = 1 } ∷ []; writer = v }) l
     unfolding finishOf
     finish-accepted h l v eh size el ev =
         rw (← e, z, ← eh, start-15 h size, rest-112 h size, mark-1 h size, handed-128 h size, ev, el) (refl, (refl, finish-good w (length lent) g (sym e ∙ z)))

@@ -139,16 +139,17 @@ pub fn finish(w: HpsWriter, lent: &mut [u8]) -> Finished
     ensures { λ q. ⌜ now (lent .exit) ≡ finishOf w (now (lent .entry)) .lent ⌝ }
     ensures { λ q. ⌜ Good (q .writer) ⌝ }
 {
-    let r = finish_due(w.finished, w.blocks, w.last, lent.len());
+    let stream = w.stream;
+    let r = finish_due(w.finished, stream.blocks, stream.last, lent.len());
     if r != 0 {
         return refused(w, r);
     }
-    let left = w.left;
-    let right = w.right;
-    let bytes = header(w.channels, w.sum, left, right);
+    let left = stream.left;
+    let right = stream.right;
+    let bytes = header(w.setup.channels, stream.sum, left, right);
     hand_out(&bytes, lent);
     Finished {
-        reply: Reply::Accepted(w.offset),
+        reply: Reply::Accepted(stream.offset),
         places: [START, REST, MARK],
         writer: HpsWriter {
             finished: true,

@@ -7,9 +7,8 @@ use lib.Dec.{ltb, eqb}
 use lib.IntN.{ℤ}
 use Rattle.layout.specs.Choice.{pick}
 use Rattle.layout.specs.Puts.{putAt}
-use Rattle.writer.specs.Loading.{Answer, accepted, refused}
+use Rattle.writer.specs.Loading.{Answer, accepted, refused, pushArgs}
 use Rattle.writer.specs.Calls.{Outcome, cueOf, pushOf}
-use Rattle.push_due.specs.PushDue.{pushArgs}
 use Rattle.kept_sides.specs.KeptSides.{sideIn, kindOf}
 use Rattle.kept_writer.specs.KeptWriter.{streamIn, writerIn}
 use Rattle.kept_loading.specs.KeptLoading.{numberOf, onKept}

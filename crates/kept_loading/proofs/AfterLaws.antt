@@ -18,8 +18,8 @@ use Rattle.writer.proofs.GoodLaws.{cue-kept}
 use Rattle.writer.specs.declared.Cue.{Cue}
 use Rattle.writer.specs.declared.LoopAt.{LoopAt}
 use Rattle.writer.specs.declared.HpsWriter.{HpsWriter}
-use Rattle.push_plan.specs.PushPlan.{streamOf, writerOf}
-use Rattle.push_plan.specs.declared.Stream.{Stream}
+use Rattle.kept_sides.specs.Fields.{fieldsOf, writerOf}
+use Rattle.kept_sides.specs.declared.Fields.{Fields}
 use Rattle.kept_sides.specs.KeptSides.{cuesFrom, tableIn, cuesAt, leftAt, rightAt, loaderSize}
 use Rattle.kept_writer.specs.KeptWriter.{fieldsIn, placesGood, sumsGood, marksGood, loopsWithin, sensible, streamIn, writerIn}
 use Rattle.kept_writer.proofs.KeptLaws.{kept-good}
@@ -62,10 +62,10 @@ loops-good : (l : LoopAt) (o : ℕ) → ((n : ℕ) → l ≡ LoopAt.At n → n �
 loops-good LoopAt.Nowhere o h = refl
 loops-good (LoopAt.At n) o h = le-leb n o (h n refl)
 
-pub good-sensible : (w : HpsWriter) → Good w → sensible (streamOf w) ≡ true
+pub good-sensible : (w : HpsWriter) → Good w → sensible (fieldsOf w) ≡ true
 unfolding sensible placesGood sumsGood
 good-sensible w g =
-    rw (le-leb _ _ (g .small), le-leb _ _ (g .room), le-leb _ _ (g .few), le-leb _ _ (g .placed), le-leb (w .id) (w .next + 1) (omega (arith, g .named)), le-leb _ _ (g .many), le-leb _ _ (g .base), le-leb _ _ (g .sums), le-leb _ _ (g .counted), marks-good (w .blocks) (w .last) (w .finished) (g .some) (g .done), loops-good (w .loopat) (w .offset) (g .looped))
+    rw (le-leb _ _ (g .small), le-leb _ _ (g .room), le-leb _ _ (g .few), le-leb _ _ (g .placed), le-leb (w .stream .id) (w .stream .next + 1) (omega (arith, g .named)), le-leb _ _ (g .many), le-leb _ _ (g .base), le-leb _ _ (g .sums), le-leb _ _ (g .counted), marks-good (w .stream .blocks) (w .stream .last) (w .finished) (g .some) (g .done), loops-good (w .stream .loopat) (w .stream .offset) (g .looped))
 
 -- ---- A table has zeros after its cues
 
@@ -99,26 +99,26 @@ insert-tailed t n c len few e =
 
 module _ (w : HpsWriter) (c : Cue) where
   -- the other numbers are left
-  pub cue-stream : streamOf (cueOf w c .writer) ≡ streamOf (withTable w (w .cues) (cueOf w c .writer .count))
+  pub cue-stream : fieldsOf (cueOf w c .writer) ≡ fieldsOf (withTable w (w .table .cues) (cueOf w c .writer .table .count))
   unfolding cueOf afterCue
   cue-stream =
-      by-cases (eqb (cueRefusal (w .blocks) (held w) c) 0) (λ q. rw q (by-cases (has c (held w)) (λ e. rw e) (λ e. rw e))) (λ q. rw q)
+      by-cases (eqb (cueRefusal (w .stream .blocks) (held w) c) 0) (λ q. rw q (by-cases (has c (held w)) (λ e. rw e) (λ e. rw e))) (λ q. rw q)
 
-  pub cue-tailed : Good w → Tailed (w .cues) (w .count) → Tailed (cueOf w c .writer .cues) (cueOf w c .writer .count)
+  pub cue-tailed : Good w → Tailed (w .table .cues) (w .table .count) → Tailed (cueOf w c .writer .table .cues) (cueOf w c .writer .table .count)
   unfolding cueOf afterCue
   cue-tailed g t =
-      by-cases (eqb (cueRefusal (w .blocks) (held w) c) 0)
+      by-cases (eqb (cueRefusal (w .stream .blocks) (held w) c) 0)
       (λ q.
-      let f = passed-cue _ _ _ (eqb-true (cueRefusal (w .blocks) (held w) c) 0 q) in
+      let f = passed-cue _ _ _ (eqb-true (cueRefusal (w .stream .blocks) (held w) c) 0 q) in
       rw q (by-cases (has c (held w)) (λ e. rw e t)
       (λ e.
       let l = leb-false cueLimit (length (held w)) (rw e at (f .no20)) in
-      let k = length-take-le (w .count) (w .cues) (omega (arith, g .few, g .table)) in
-      rw e (insert-tailed (w .cues) (w .count) c (g .table) (omega arith) t))))
+      let k = length-take-le (w .table .count) (w .table .cues) (omega (arith, g .few, g .table)) in
+      rw e (insert-tailed (w .table .cues) (w .table .count) c (g .table) (omega arith) t))))
       (λ q. rw q t)
 
 module _ (kept : List ℕ) (t : List Cue) (n : ℕ) (len : length t ≡ cueLimit) (few : n ≤ cueLimit) (room : loaderSize ≤ length kept) where
-  fields-after : fieldsIn (tablePut kept t n) ≡ streamOf (withTable (writerOf t (fieldsIn kept)) t n)
+  fields-after : fieldsIn (tablePut kept t n) ≡ fieldsOf (withTable (writerOf t (fieldsIn kept)) t n)
   unfolding fieldsIn
   fields-after =
       let f = front-left kept t n len few room in
@@ -127,20 +127,20 @@ module _ (kept : List ℕ) (t : List Cue) (n : ℕ) (len : length t ≡ cueLimit
 
 -- bytes that hold a record: put into them is the table of the record that the call gives
 pub cue-after : (kept : List ℕ) (c : Cue) (after : HpsWriter) (put : List ℕ) → (streamIn kept .slot ≡ 0 → ⊥) → after ≡ cueOf (writerIn kept) c .writer
-    → put ≡ tablePut kept (after .cues) (after .count) → tableIn put cuesAt (after .count) ≡ firstOf (after .cues) (after .count)
+    → put ≡ tablePut kept (after .table .cues) (after .table .count) → tableIn put cuesAt (after .table .count) ≡ firstOf (after .table .cues) (after .table .count)
     → writerIn put ≡ cueOf (writerIn kept) c .writer
 cue-after kept c after put some e p b =
     let w = writerIn kept in
     let h = holds kept some in
     let g : Good after = rw e (cue-kept w (kept-good kept) c) in
-    let tailed : firstOf (after .cues) (after .count) ≡ after .cues = rw e (cue-tailed w c (kept-good kept) (read-tailed kept cuesAt (streamIn kept .count))) in
-    let stream : streamOf after ≡ streamOf (withTable w (w .cues) (after .count)) = rw e (cue-stream w c) in
-    let fields : fieldsIn put ≡ streamOf after =
+    let tailed : firstOf (after .table .cues) (after .table .count) ≡ after .table .cues = rw e (cue-tailed w c (kept-good kept) (read-tailed kept cuesAt (streamIn kept .count))) in
+    let stream : fieldsOf after ≡ fieldsOf (withTable w (w .table .cues) (after .table .count)) = rw e (cue-stream w c) in
+    let fields : fieldsIn put ≡ fieldsOf after =
     ap fieldsIn p
-    ∙ fields-after kept (after .cues) (after .count) (g .table) (g .few) (h .room)
-    ∙ ap (λ (s : Stream). streamOf (withTable (writerOf [] s) [] (after .count))) (sym (h .is))
+    ∙ fields-after kept (after .table .cues) (after .table .count) (g .table) (g .few) (h .room)
+    ∙ ap (λ (s : Fields). fieldsOf (withTable (writerOf [] s) [] (after .table .count))) (sym (h .is))
     ∙ sym stream in
-    let long : length put ≡ length kept = ap length p ∙ front-left kept (after .cues) (after .count) (g .table) (g .few) (h .room) .long in
+    let long : length put ≡ length kept = ap length p ∙ front-left kept (after .table .cues) (after .table .count) (g .table) (g .few) (h .room) .long in
     let room : loaderSize ≤ length put = omega (arith, h .room) in
-    let is : streamIn put ≡ streamOf after = held-is put room (ap sensible fields ∙ good-sensible after g) ∙ fields in
-    rw is (ap (λ (t : List Cue). writerOf t (streamOf after)) (b ∙ tailed)) ∙ e
+    let is : streamIn put ≡ fieldsOf after = held-is put room (ap sensible fields ∙ good-sensible after g) ∙ fields in
+    rw is (ap (λ (t : List Cue). writerOf t (fieldsOf after)) (b ∙ tailed)) ∙ e

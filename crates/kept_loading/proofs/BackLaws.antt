@@ -28,8 +28,8 @@ use Rattle.writer.specs.declared.ChannelBlock.{ChannelBlock}
 use Rattle.writer.specs.declared.Cue.{Cue}
 use Rattle.writer.specs.declared.Looping.{Looping}
 use Rattle.writer.specs.declared.LoopAt.{LoopAt}
-use Rattle.push_plan.specs.PushPlan.{streamOf, writerOf}
-use Rattle.push_plan.specs.declared.Stream.{Stream}
+use Rattle.kept_sides.specs.Fields.{fieldsOf, writerOf}
+use Rattle.kept_sides.specs.declared.Fields.{Fields}
 use Rattle.kept_reader.specs.KeptReader.{be64, wordAt, longAt}
 use Rattle.kept_reader.proofs.LongLaws.{be64-length, word-back, long-back}
 use Rattle.kept_reader.proofs.ReadBackLaws.{Agree}
@@ -124,7 +124,7 @@ loop-back (LoopAt.At n) o h s =
 
 -- ---- The numbers of a record
 
-pub numbers-back : (k : List ℕ) (s : Stream) (t : List Cue) → Good (writerOf t s) → Long (s .channels) → At k 0 (numberBytes s)
+pub numbers-back : (k : List ℕ) (s : Fields) (t : List Cue) → Good (writerOf t s) → Long (s .channels) → At k 0 (numberBytes s)
     → sideIn k leftAt ≡ s .left → sideIn k rightAt ≡ s .right → fieldsIn k ≡ s
 unfolding fieldsIn numberBytes
 numbers-back k s t g ch a l r =
@@ -196,7 +196,7 @@ side-back {k} off b f a =
 -- ---- The record
 
 -- bytes with these numbers and sides, and with the table of other bytes
-pub record-back : (k k′ : List ℕ) (s : Stream) (t : List Cue) → loaderSize ≤ length k → length k′ ≡ length k → Good (writerOf t s) → fieldsIn k′ ≡ s → Agree k′ k cuesAt loaderSize
+pub record-back : (k k′ : List ℕ) (s : Fields) (t : List Cue) → loaderSize ≤ length k → length k′ ≡ length k → Good (writerOf t s) → fieldsIn k′ ≡ s → Agree k′ k cuesAt loaderSize
     → writerIn k′ ≡ writerOf (tableIn k cuesAt (s .count)) s
 record-back k k′ s t room long g e a =
     let is : streamIn k′ ≡ s = sym (holds-record k′ (omega arith) s (sym e) (sensible s) refl (good-sensible (writerOf t s) g)) in
@@ -206,7 +206,7 @@ record-back k k′ s t room long g e a =
 -- ---- After finish
 
 -- the numbers with the mark of a finished stream
-abbrev marked : Stream → Stream
+abbrev marked : Fields → Fields
 marked s =
     record { slot = s .slot; channels = s .channels; mode = s .mode; count = s .count; next = s .next; id = s .id; base = s .base; offset = s .offset; loopat = s .loopat; blocks = s .blocks; sum = s .sum; left = s .left; right = s .right; last = s .last; finished = true }
 
@@ -243,7 +243,7 @@ module _ (k : List ℕ) (lent : List ℕ) (n : ℕ) where
 
 -- ---- After begin
 
-module _ (k : List ℕ) (room : loaderSize ≤ length k) (s : Stream) (t : List Cue) (g : Good (writerOf t s)) (ch : Long (s .channels)) where
+module _ (k : List ℕ) (room : loaderSize ≤ length k) (s : Fields) (t : List Cue) (g : Good (writerOf t s)) (ch : Long (s .channels)) where
   pub whole-back : SideFits (s .left) → SideFits (s .right) → writerIn (putAt k 0 (recordBytes s)) ≡ writerOf (tableIn k cuesAt (s .count)) s
   unfolding recordBytes
   whole-back fl fr =
@@ -281,17 +281,17 @@ none-fits =
     }
 
 module _ (k : List ℕ) (slot ch : ℕ) (mode : Looping) (lent : List ℕ) (n : ℕ) where
-  empty-back : loaderSize ≤ length k → Long ch → beginRefusal slot ch (length lent) ≡ 0 → writerIn (putAt k 0 (recordBytes (streamOf (emptyOf slot ch mode)))) ≡ emptyOf slot ch mode
+  empty-back : loaderSize ≤ length k → Long ch → beginRefusal slot ch (length lent) ≡ 0 → writerIn (putAt k 0 (recordBytes (fieldsOf (emptyOf slot ch mode)))) ≡ emptyOf slot ch mode
   unfolding tableIn cuesFrom
   empty-back room f z =
-      whole-back k room (streamOf (emptyOf slot ch mode)) (emptyOf slot ch mode .cues) (empty-good slot ch (length lent) mode z) f none-fits none-fits
+      whole-back k room (fieldsOf (emptyOf slot ch mode)) (emptyOf slot ch mode .table .cues) (empty-good slot ch (length lent) mode z) f none-fits none-fits
 
   pub begin-after : loaderSize ≤ length k → Long ch → replyOf (beginOf slot ch mode lent .answer) ≡ Accepted n
-      → writerIn (putAt k 0 (recordBytes (streamOf (beginOf slot ch mode lent .writer)))) ≡ beginOf slot ch mode lent .writer
+      → writerIn (putAt k 0 (recordBytes (fieldsOf (beginOf slot ch mode lent .writer)))) ≡ beginOf slot ch mode lent .writer
   unfolding beginOf
   begin-after room f e =
       by-cases (eqb (beginRefusal slot ch (length lent)) 0) (λ q. rw q (empty-back room f (eqb-true _ 0 q))) (λ q. apart-replies n _ (sym (rw q at e)))
 
-  pub begin-sixteen : (length (beginOf slot ch mode lent .writer .left .coefficients) ≡ 16) × (length (beginOf slot ch mode lent .writer .right .coefficients) ≡ 16)
+  pub begin-sixteen : (length (beginOf slot ch mode lent .writer .stream .left .coefficients) ≡ 16) × (length (beginOf slot ch mode lent .writer .stream .right .coefficients) ≡ 16)
   unfolding beginOf
   begin-sixteen = by-cases (eqb (beginRefusal slot ch (length lent)) 0) (λ q. rw q (refl, refl)) (λ q. rw q (refl, refl))

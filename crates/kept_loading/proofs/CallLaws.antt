@@ -100,28 +100,28 @@ module _ (n ch : ℕ) (mode : Looping) (lent : List ℕ) (q : Called) (e : q ≡
 module _ (w : HpsWriter) (c : Cue) (q : Cued) (e : q ≡ cued (cueOf w c)) (k : ℕ) where
   pub cue-refused : q .reply ≡ Refused k → noCall k ≡ callOf (cueOf w c)
   unfolding cueOf
-  cue-refused h = refused-call (cueRefusal (w .blocks) (held w) c) w (afterCue w c) [] 0 [] k (sym (ap (λ (c : Cued). c .reply) e) ∙ h)
+  cue-refused h = refused-call (cueRefusal (w .stream .blocks) (held w) c) w (afterCue w c) [] 0 [] k (sym (ap (λ (c : Cued). c .reply) e) ∙ h)
 
   pub cue-accepted : q .reply ≡ Accepted k → noCall 0 ≡ callOf (cueOf w c)
   unfolding cueOf
   cue-accepted h =
-      by-cases (eqb (cueRefusal (w .blocks) (held w) c) 0) (λ z. rw z)
+      by-cases (eqb (cueRefusal (w .stream .blocks) (held w) c) 0) (λ z. rw z)
       (λ z. apart-replies k _ (sym (rw z at (sym (ap (λ (c : Cued). c .reply) e) ∙ h))))
 
   pub cue-number : q .reply ≡ Refused k → eqb k 0 ≡ false
   unfolding cueOf
-  cue-number h = refused-number (cueRefusal (w .blocks) (held w) c) w (afterCue w c) [] 0 [] k (sym (ap (λ (c : Cued). c .reply) e) ∙ h)
+  cue-number h = refused-number (cueRefusal (w .stream .blocks) (held w) c) w (afterCue w c) [] 0 [] k (sym (ap (λ (c : Cued). c .reply) e) ∙ h)
 
 module _ (w : HpsWriter) (lent : List ℕ) (q : Finished) (e : q ≡ finished (finishOf w lent)) (k : ℕ) where
   pub finish-number : q .reply ≡ Refused k → eqb k 0 ≡ false
   unfolding finishOf
   finish-number h =
-      refused-number (finishRefusal (w .finished) (w .blocks) (w .last) (length lent)) w (afterFinish w) lent (w .offset) (headerWrites (headerOf w)) k (sym (ap (λ (c : Finished). c .reply) e) ∙ h)
+      refused-number (finishRefusal (w .finished) (w .stream .blocks) (w .stream .last) (length lent)) w (afterFinish w) lent (w .stream .offset) (headerWrites (headerOf w)) k (sym (ap (λ (c : Finished). c .reply) e) ∙ h)
 
   pub finish-lent : q .reply ≡ Refused k → finishOf w lent .lent ≡ lent
   unfolding finishOf
   finish-lent h =
-      refused-lent (finishRefusal (w .finished) (w .blocks) (w .last) (length lent)) w (afterFinish w) lent (w .offset) (headerWrites (headerOf w)) k (sym (ap (λ (c : Finished). c .reply) e) ∙ h)
+      refused-lent (finishRefusal (w .finished) (w .stream .blocks) (w .stream .last) (length lent)) w (afterFinish w) lent (w .stream .offset) (headerWrites (headerOf w)) k (sym (ap (λ (c : Finished). c .reply) e) ∙ h)
 
 module _ (o : Outcome) (q : Finished) (e : q ≡ finished o) (k : ℕ) where
   finish-answer : (a : Answer) (r : Reply) → r ≡ replyOf a → _≡_ {A = KeptCall} (record { number = replyNumber r; offset = 0; length = givenIn r }) (record { number = numberOf a; offset = 0; length = givenOf a })

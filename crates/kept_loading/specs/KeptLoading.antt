@@ -8,7 +8,7 @@ use Rattle.layout.specs.Puts.{putAt}
 use Rattle.layout.specs.Records.{be32}
 use Rattle.writer.specs.Loading.{Answer, accepted, refused}
 use Rattle.writer.specs.Calls.{Outcome, firstPlace}
-use Rattle.push_plan.specs.PushPlan.{streamOf}
+use Rattle.kept_sides.specs.Fields.{fieldsOf}
 use Rattle.kept_writer.specs.KeptWriter.{streamIn}
 use Rattle.kept_record.specs.KeptRecord.{recordBytes, pushedBytes}
 use Rattle.kept_table.specs.KeptTable.{tablePut}
@@ -54,15 +54,15 @@ givenAfter n before x = pick (eqb n 0) x before
 
 -- Begin puts the record's numbers and sides; its table is empty.
 abbrev pub bytesBegun : (kept : List ℕ) → Outcome → List ℕ
-bytesBegun kept o = putAt kept 0 (recordBytes (streamOf (o .writer)))
+bytesBegun kept o = putAt kept 0 (recordBytes (fieldsOf (o .writer)))
 
 -- Cue puts the table.
 abbrev pub bytesCued : (kept : List ℕ) → Outcome → List ℕ
-bytesCued kept o = tablePut kept (o .writer .cues) (o .writer .count)
+bytesCued kept o = tablePut kept (o .writer .table .cues) (o .writer .table .count)
 
 -- Push puts the numbers, and the first one the sides.
 abbrev pub bytesPushed : (kept : List ℕ) → Outcome → List ℕ
-bytesPushed kept o = putAt kept 0 (pushedBytes (streamOf (o .writer)))
+bytesPushed kept o = putAt kept 0 (pushedBytes (fieldsOf (o .writer)))
 
 -- Finish puts the mark of a finished stream.
 abbrev pub bytesFinished : (kept : List ℕ) → List ℕ

@@ -1,5 +1,4 @@
 // Begin, cue and finish on a record in lent bytes.
-use block_writer::push::stream_of;
 use cue_writer::cue;
 use header_writer::finish::finish;
 use kept_puts::put_finished;
@@ -10,6 +9,7 @@ use kept_reader::NO_ROOM;
 use kept_record::put_sides;
 use kept_sides::places::LOADER_SIZE;
 use kept_table::put_table;
+use kept_writer::loader::fields_of;
 use kept_writer::loader::mode_of;
 use kept_writer::loader::writer_in;
 use writer::Cue;
@@ -64,7 +64,7 @@ pub fn begin_kept(
     match reply {
         Reply::Refused(number) => refused(number),
         Reply::Accepted(_) => {
-            let s = stream_of(w);
+            let s = fields_of(w);
             let left = s.left;
             let right = s.right;
             put_numbers(kept, s);
@@ -85,7 +85,7 @@ pub fn cue_kept(kept: &mut [u8], c: Cue) -> KeptCall
     ensures { λ q. ⌜ writerIn (now (kept .exit)) ≡ givenAfter (q .number) (writerIn (now (kept .entry))) (cueOf (writerIn (now (kept .entry))) c .writer) ⌝ }
 {
     let w = writer_in(kept);
-    if w.slot == 0 {
+    if w.setup.slot == 0 {
         return refused(NO_RECORD);
     }
     let call = cue(w, c);
@@ -94,8 +94,8 @@ pub fn cue_kept(kept: &mut [u8], c: Cue) -> KeptCall
     match reply {
         Reply::Refused(number) => refused(number),
         Reply::Accepted(_) => {
-            let cues = after.cues;
-            put_table(kept, cues, after.count);
+            let cues = after.table.cues;
+            put_table(kept, cues, after.table.count);
             refused(0)
         }
     }
@@ -109,7 +109,7 @@ pub fn finish_kept(kept: &mut [u8], lent: &mut [u8]) -> KeptCall
     ensures { λ q. ⌜ writerIn (now (kept .exit)) ≡ givenAfter (q .number) (writerIn (now (kept .entry))) (finishOf (writerIn (now (kept .entry))) (now (lent .entry)) .writer) ⌝ }
 {
     let w = writer_in(kept);
-    if w.slot == 0 {
+    if w.setup.slot == 0 {
         return refused(NO_RECORD);
     }
     let call = finish(w, lent);

@@ -18,16 +18,16 @@ use Rattle.layout.specs.Lists.{All}
 use Rattle.layout.specs.Puts.{putAt}
 use Rattle.layout.proofs.Cases.{by-cases}
 use Rattle.puts.proofs.PutLaws.{putAt-length}
-use Rattle.writer.specs.Loading.{pushRefusal}
+use Rattle.writer.specs.Loading.{pushRefusal, pushArgs}
+use Rattle.writer.specs.Push.{advanced}
 use Rattle.writer.specs.Calls.{standingIn, takenOf, pushOf, Good}
 use Rattle.writer.proofs.GoodLaws.{push-good}
 use Rattle.writer.specs.declared.ChannelBlock.{ChannelBlock}
 use Rattle.writer.specs.declared.Cue.{Cue}
-use Rattle.push_due.specs.PushDue.{pushArgs}
 use Rattle.taking.specs.declared.Taken.{Taken}
-use Rattle.push_plan.specs.PushPlan.{streamOf, writerOf, advanced}
+use Rattle.kept_sides.specs.Fields.{streamOf, writerOf, fieldsOf, withStream}
 use Rattle.push_plan.specs.declared.Plan.{Plan}
-use Rattle.push_plan.specs.declared.Stream.{Stream}
+use Rattle.kept_sides.specs.declared.Fields.{Fields}
 use Rattle.kept_sides.specs.KeptSides.{sideIn, tableIn, cuesAt, leftAt, rightAt, loaderSize}
 use Rattle.kept_sides.proofs.SameLaws.{side-same}
 use Rattle.kept_puts.specs.KeptNumbers.{numberBytes}
@@ -43,7 +43,7 @@ use Rattle.kept_loading.proofs.BackLaws.{Long, numbers-back, SideFits, record-b
 
 -- ---- The bytes that are put
 
-module _ (k : List ℕ) (room : loaderSize ≤ length k) (s : Stream) (t : List Cue) (g : Good (writerOf t s)) (ch : Long (s .channels)) where
+module _ (k : List ℕ) (room : loaderSize ≤ length k) (s : Fields) (t : List Cue) (g : Good (writerOf t s)) (ch : Long (s .channels)) where
   numbers-alone : sideIn k leftAt ≡ s .left → sideIn k rightAt ≡ s .right → writerIn (putAt k 0 (numberBytes s)) ≡ writerOf (tableIn k cuesAt (s .count)) s
   numbers-alone l r =
       let bs = numberBytes s in
@@ -71,8 +71,8 @@ side-there k = (refl, refl)
 
 module _ (k : List ℕ) (some : streamIn k .slot ≡ 0 → ⊥) {ch : ℕ} {l r : ChannelBlock} {ld rd : List ℕ} {last : Bool} {lent : List ℕ} {end : ℕ} {t : Taken} {held : Bool} {plan : Plan}
     (w : Worked (writerIn k) ch l r ld rd last lent end t held plan) (z : plan .due ≡ 0) (fl : SideFits l) (fr : SideFits r) (long : Long (streamIn k .channels)) where
-  abbrev next : Stream
-  next = advanced (streamIn k) t end (plan .size) (plan .loopat) l r last
+  abbrev next : Fields
+  next = withStream (streamIn k) (advanced (streamOf (streamIn k)) (t .to) (t .points) end (plan .size) (plan .loopat) l r last)
 
   next-good : Good (writerOf (tableIn k cuesAt (streamIn k .count)) next)
   next-good = rw (after-is w z) (push-good (writerIn k) (pushArgs ch l r ld rd last) (length lent) (kept-good k) (sym (due-is w) ∙ z))
@@ -87,7 +87,7 @@ module _ (k : List ℕ) (some : streamIn k .slot ≡ 0 → ⊥) {ch : ℕ} {l r 
       let there = holds k some .is in
       let e = side-there k in
       rw (ne-eqb (streamIn k .blocks) 0 (λ n. h (ap (λ (m : ℕ). m + 1) n)))
-      (sym (ap (λ (s : Stream). s .left) there ∙ e .0), sym (ap (λ (s : Stream). s .right) there ∙ e .1))
+      (sym (ap (λ (s : Fields). s .left) there ∙ e .0), sym (ap (λ (s : Fields). s .right) there ∙ e .1))
 
   kept-there : (next .channels ≡ streamIn k .channels) × (next .count ≡ streamIn k .count)
   unfolding advanced
@@ -102,11 +102,11 @@ module _ (k : List ℕ) (some : streamIn k .slot ≡ 0 → ⊥) {ch : ℕ} {l r 
       (pushed-back k (holds k some .room) next (tableIn k cuesAt (streamIn k .count)) next-good (omega arith) first-fits later-there
       ∙ ap (λ (n : ℕ). writerOf (tableIn k cuesAt n) next) (is .1) ∙ after-is w z)
 
-  pub push-stream : next ≡ streamOf (pushOf (writerIn k) (pushArgs ch l r ld rd last) lent .writer)
+  pub push-stream : next ≡ fieldsOf (pushOf (writerIn k) (pushArgs ch l r ld rd last) lent .writer)
   unfolding pushOf
   push-stream =
       let p = pushArgs ch l r ld rd last in
-      rw (eq-eqb (pushRefusal (standingIn (writerIn k)) (takenOf (writerIn k) p) p (length lent)) 0 (sym (due-is w) ∙ z)) (ap streamOf (after-is w z))
+      rw (eq-eqb (pushRefusal (standingIn (writerIn k)) (takenOf (writerIn k) p) p (length lent)) 0 (sym (due-is w) ∙ z)) (ap fieldsOf (after-is w z))
 
 -- ---- The elements of an array of i16 that is a field
 

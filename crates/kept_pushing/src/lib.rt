@@ -7,8 +7,11 @@ use kept_reader::NO_SIDE;
 use kept_record::put_pushed;
 use kept_writer::loader::held_kept;
 use kept_writer::loader::put_taken_kept;
+use kept_writer::loader::setup_of;
 use kept_writer::loader::stream_in;
+use kept_writer::loader::stream_of;
 use kept_writer::loader::take_kept;
+use kept_writer::loader::with_stream;
 use layout::limits::BLOCK_HEADER_SIZE;
 use push_advance::advance;
 use push_plan::block_end;
@@ -20,7 +23,7 @@ ghost use Prim.Native.Nat.{_<_};
 ghost use lib.Dec.{eqb};
 ghost use Rattle.layout.specs.Choice.{pick};
 ghost use Rattle.writer.specs.Calls.{pushOf};
-ghost use Rattle.push_due.specs.PushDue.{pushArgs};
+ghost use Rattle.writer.specs.Loading.{pushArgs};
 ghost use Rattle.kept_writer.specs.KeptWriter.{streamIn, writerIn};
 ghost use Rattle.kept_loading.specs.KeptLoading.{onKept, givenAfter, bytesPushed};
 
@@ -54,15 +57,18 @@ pub fn push_kept(
     if s.slot == 0 {
         return refused(NO_RECORD);
     }
+    let setup = setup_of(s);
     let mode = s.mode;
     let former = s.loopat;
+    let stream = stream_of(s);
     let end = block_end(s.base, left.length);
     let taken = take_kept(kept, s.next, s.count, end, last);
     let held = held_kept(kept, mode, former, s.count);
     let left_bytes = left_data.len();
     let right_bytes = right_data.len();
     let plan = plan_push(
-        s,
+        setup,
+        stream,
         taken,
         held,
         end,
@@ -92,8 +98,9 @@ pub fn push_kept(
     );
     put_data(lent, plan.start, channels, left_data, right_data);
     let loopat = plan.loopat;
-    let after = advance(s, taken, end, plan.size, loopat, left, right, last);
-    put_pushed(kept, after);
+    let after = advance(stream, taken, end, plan.size, loopat, left, right, last);
+    let fields = with_stream(s, after);
+    put_pushed(kept, fields);
     KeptCall {
         number: 0,
         offset: s.offset,

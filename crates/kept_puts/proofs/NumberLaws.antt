@@ -12,7 +12,7 @@ use Rattle.layout.proofs.Lengths.{be32-length}
 use Rattle.puts.proofs.PutLaws.{Put, put-then, putAt-length}
 use Rattle.writer.specs.declared.Looping.{Looping}
 use Rattle.writer.specs.declared.LoopAt.{LoopAt}
-use Rattle.push_plan.specs.declared.Stream.{Stream}
+use Rattle.kept_sides.specs.declared.Fields.{Fields}
 use Rattle.kept_reader.specs.KeptReader.{be64, putLong}
 use Rattle.kept_reader.proofs.LongLaws.{be64-length, long-put}
 use Rattle.kept_puts.specs.KeptNumbers.{modeNumber, loopNumber, flagNumber, placesBytes, sumsBytes, marksBytes, numberBytes}
@@ -83,11 +83,11 @@ pub marks-length : (l : LoopAt) (m : Looping) (id : ℕ) (last finished : Bool) 
 unfolding marksBytes concat be64 be32
 marks-length l m id last finished = refl
 
-pub numbers-length : (s : Stream) → length (numberBytes s) ≡ leftAt
+pub numbers-length : (s : Fields) → length (numberBytes s) ≡ leftAt
 unfolding numberBytes
 numbers-length s = simp (length-append, places-length, sums-length, marks-length)
 
-pub numbers-put : (k k₁ k₂ : List ℕ) {k₃ : List ℕ} (s : Stream) → leftAt ≤ length k → k₁ ≡ putAt k 0 (placesBytes (s .slot) (s .channels) (s .count) (s .next))
+pub numbers-put : (k k₁ k₂ : List ℕ) {k₃ : List ℕ} (s : Fields) → leftAt ≤ length k → k₁ ≡ putAt k 0 (placesBytes (s .slot) (s .channels) (s .count) (s .next))
     → k₂ ≡ putAt k₁ 32 (sumsBytes (s .base) (s .offset) (s .blocks) (s .sum)) → k₃ ≡ putAt k₂ 64 (marksBytes (s .loopat) (s .mode) (s .id) (s .last) (s .finished))
     → k₃ ≡ putAt k 0 (numberBytes s)
 unfolding numberBytes

@@ -9,7 +9,7 @@ use Rattle.writer.specs.declared.Looping.{Looping}
 use Rattle.writer.specs.declared.Looping.the-variants.{Disabled, Enabled, Auto}
 use Rattle.writer.specs.declared.LoopAt.{LoopAt}
 use Rattle.writer.specs.declared.LoopAt.the-variants.{Nowhere, At}
-use Rattle.push_plan.specs.declared.Stream.{Stream}
+use Rattle.kept_sides.specs.declared.Fields.{Fields}
 use Rattle.kept_reader.specs.KeptReader.{be64}
 
 -- ---- Numbers for what is no number
@@ -44,7 +44,7 @@ unfoldable pub marksBytes : LoopAt → Looping → (id : ℕ) (last finished : B
 marksBytes loopat mode id last finished = be64 (loopNumber loopat) ++ concat be32 (modeNumber mode ∷ id ∷ flagNumber last ∷ flagNumber finished ∷ [])
 
 -- The numbers of the record.
-unfoldable pub numberBytes : Stream → List ℕ
+unfoldable pub numberBytes : Fields → List ℕ
 numberBytes s =
     (placesBytes (s .slot) (s .channels) (s .count) (s .next) ++ sumsBytes (s .base) (s .offset) (s .blocks) (s .sum))
     ++ marksBytes (s .loopat) (s .mode) (s .id) (s .last) (s .finished)

@@ -1,5 +1,6 @@
 // The numbers of the writer's record put into lent bytes.
 use kept_reader::fields::put_long;
+use kept_sides::Fields;
 use kept_sides::places::BASE_AT;
 use kept_sides::places::BLOCKS_AT;
 use kept_sides::places::CHANNELS_AT;
@@ -13,7 +14,6 @@ use kept_sides::places::NEXT_AT;
 use kept_sides::places::OFFSET_AT;
 use kept_sides::places::SLOT_AT;
 use kept_sides::places::SUM_AT;
-use push_plan::Stream;
 use puts::put_u32;
 use writer::LoopAt;
 use writer::Looping;
@@ -85,7 +85,7 @@ fn put_marks(kept: &mut [u8], loopat: LoopAt, mode: Looping, id: u32, last: bool
 }
 
 // The numbers of the record: its bytes before the sides.
-pub fn put_numbers(kept: &mut [u8], s: Stream)
+pub fn put_numbers(kept: &mut [u8], s: Fields)
     requires { ⌜ leftAt ≤ length (now kept) ⌝ }
     ensures { λ _. ⌜ now (kept .exit) ≡ putAt (now (kept .entry)) 0 (numberBytes s) ⌝ }
 {

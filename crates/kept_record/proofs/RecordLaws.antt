@@ -10,7 +10,7 @@ use Rattle.layout.specs.Records.{be16, be32, beZ16, contextBytes}
 use Rattle.layout.proofs.Lengths.{be16-length, be32-length, context-length, coefficients-length}
 use Rattle.puts.proofs.PutLaws.{Put, put-then}
 use Rattle.writer.specs.declared.ChannelBlock.{ChannelBlock}
-use Rattle.push_plan.specs.declared.Stream.{Stream}
+use Rattle.kept_sides.specs.declared.Fields.{Fields}
 use Rattle.kept_puts.specs.KeptNumbers.{numberBytes}
 use Rattle.kept_puts.proofs.NumberLaws.{numbers-length}
 use Rattle.kept_record.specs.KeptRecord.{sideBytes, recordBytes, pushedBytes}
@@ -45,7 +45,7 @@ sides-put k k₁ l r room hl hr e₁ e₂ =
 
 -- ---- The bytes that are put
 
-module _ (k k₁ : List ℕ) (s : Stream) (is : k₁ ≡ putAt k 0 (numberBytes s)) where
+module _ (k k₁ : List ℕ) (s : Fields) (is : k₁ ≡ putAt k 0 (numberBytes s)) where
   pub record-put : {k₂ : List ℕ} → cuesAt ≤ length k → length (s .left .coefficients) ≡ 16 → length (s .right .coefficients) ≡ 16 → k₂ ≡ putAt k₁ leftAt (sideBytes (s .left) ++ sideBytes (s .right)) → k₂ ≡ putAt k 0 (recordBytes s)
   unfolding recordBytes
   record-put room l r e =

@@ -5,7 +5,7 @@ use Rattle.layout.specs.Choice.{pick}
 use Rattle.layout.specs.Lists.{concat}
 use Rattle.layout.specs.Records.{be16, be32, beZ16, contextBytes}
 use Rattle.writer.specs.declared.ChannelBlock.{ChannelBlock}
-use Rattle.push_plan.specs.declared.Stream.{Stream}
+use Rattle.kept_sides.specs.declared.Fields.{Fields}
 use lib.Dec.{eqb}
 use Rattle.kept_puts.specs.KeptNumbers.{numberBytes}
 
@@ -19,9 +19,9 @@ sideBytes b =
 -- ---- The record
 
 -- The bytes of the record without its table: numbers and sides.
-unfoldable pub recordBytes : Stream → List ℕ
+unfoldable pub recordBytes : Fields → List ℕ
 recordBytes s = numberBytes s ++ (sideBytes (s .left) ++ sideBytes (s .right))
 
 -- The bytes that are put after a push: the sides after the first block alone.
-unfoldable pub pushedBytes : Stream → List ℕ
+unfoldable pub pushedBytes : Fields → List ℕ
 pushedBytes s = pick (eqb (s .blocks) 1) (recordBytes s) (numberBytes s)

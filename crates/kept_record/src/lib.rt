@@ -1,9 +1,9 @@
 // The writer's record put into lent bytes after a push: numbers and sides.
 use header_bytes::put_coefficients;
 use kept_puts::put_numbers;
+use kept_sides::Fields;
 use kept_sides::places::LEFT_AT;
 use kept_sides::places::RIGHT_AT;
-use push_plan::Stream;
 use puts::put_context;
 use puts::put_u16;
 use puts::put_u32;
@@ -39,7 +39,7 @@ pub fn put_sides(kept: &mut [u8], left: ChannelBlock, right: ChannelBlock)
 }
 
 // The numbers after a push, and after the first the sides: after a later block they stand there already.
-pub fn put_pushed(kept: &mut [u8], s: Stream)
+pub fn put_pushed(kept: &mut [u8], s: Fields)
     requires { ⌜ cuesAt ≤ length (now kept) ⌝ }
     ensures { λ _. ⌜ now (kept .exit) ≡ putAt (now (kept .entry)) 0 (pushedBytes s) ⌝ }
 {

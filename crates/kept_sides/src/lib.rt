@@ -15,10 +15,31 @@ use layout::limits::CUE_LIMIT;
 use writer::ChannelBlock;
 use writer::Cue;
 use writer::CueKind;
+use writer::LoopAt;
+use writer::Looping;
 ghost use mathlib.Core.Path.{_≡_};
 ghost use Prim.Native.Nat.{_<_, _≤_};
 ghost use Rattle.layout.specs.Refusals.{cueLimit};
 ghost use Rattle.kept_sides.specs.KeptSides.{halfAt, signedAt, signedFrom, sideIn, sidesShort, kindOf, cueIn, tableIn};
+
+// The fields of the writer's record but its table, as they lie in its bytes.
+pub struct Fields {
+    pub slot: usize,
+    pub channels: usize,
+    pub mode: Looping,
+    pub count: usize,
+    pub next: usize,
+    pub id: u32,
+    pub base: u64,
+    pub offset: usize,
+    pub loopat: LoopAt,
+    pub blocks: usize,
+    pub sum: u64,
+    pub left: ChannelBlock,
+    pub right: ChannelBlock,
+    pub last: bool,
+    pub finished: bool,
+}
 
 fn half(s: &[u8], at: usize) -> u16
     ensures { λ n. ⌜ n ≡ halfAt (now (s .entry)) at ⌝ }

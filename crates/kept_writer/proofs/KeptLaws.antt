@@ -6,15 +6,16 @@ use mathlib.Core.List.{List}
 use native.Mathlib.Omega.{arith}
 use borrow.Author.Tests.{eq-eqb, ne-eqb, le-leb, lt-leb, leb-true, ltb-true}
 use lib.ListN.{length}
-use lib.Dec.{ltb, leb, eqb}
-use Rattle.layout.specs.Choice.{pick, _and_}
+use lib.Dec.{ltb, leb}
+use Rattle.layout.specs.Choice.{_and_}
 use Rattle.layout.proofs.Cases.{by-cases, apart}
-use Rattle.writer.specs.Calls.{blank, orAt, Good}
+use Rattle.writer.specs.Calls.{blank, Good}
+use Rattle.writer.specs.Push.{loopFrom, loopsHere}
 use Rattle.writer.proofs.GoodLaws.{blank-good}
 use Rattle.writer.specs.declared.Looping.{Looping}
 use Rattle.writer.specs.declared.LoopAt.{LoopAt}
-use Rattle.push_plan.specs.PushPlan.{streamOf, writerOf, loopsTo, loopFrom}
-use Rattle.push_plan.specs.declared.Stream.{Stream}
+use Rattle.kept_sides.specs.Fields.{fieldsOf, writerOf}
+use Rattle.kept_sides.specs.declared.Fields.{Fields}
 use Rattle.kept_sides.specs.KeptSides.{tableIn, cuesFrom, cuesAt, loaderSize}
 use Rattle.kept_sides.proofs.ReadingLaws.{table-length}
 use Rattle.kept_writer.specs.KeptWriter.{modeOf, loopOf, fieldsIn, placesGood, sumsGood, marksGood, loopsWithin, sensible, streamIn, writerIn, heldIn}
@@ -108,7 +109,7 @@ is-true : (b : Bool) → not b ≡ false → b ≡ true
 is-true true e = refl
 is-true false e = sym e
 
-module _ (s : Stream) (a : Bool) (places : a ≡ placesGood (s .slot) (s .offset) (s .count) (s .next) (s .id)) where
+module _ (s : Fields) (a : Bool) (places : a ≡ placesGood (s .slot) (s .offset) (s .count) (s .next) (s .id)) where
   pub bad-places : not a ≡ true → false ≡ sensible s
   unfolding sensible
   bad-places h = rw (sym places ∙ is-false a h)
@@ -130,16 +131,16 @@ module _ (s : Stream) (a : Bool) (places : a ≡ placesGood (s .slot) (s .offset
 -- ---- The record without its table
 
 module _ (kept : List ℕ) where
-  pub too-short : length kept < loaderSize → (s : Stream) → s ≡ streamOf blank → s ≡ streamIn kept
+  pub too-short : length kept < loaderSize → (s : Fields) → s ≡ fieldsOf blank → s ≡ streamIn kept
   unfolding streamIn
   too-short h s e = e ∙ rw (lt-leb loaderSize (length kept) h)
 
-  module _ (h : loaderSize ≤ length kept) (f : Stream) (fields : f ≡ fieldsIn kept) (b : Bool) (is : b ≡ sensible f) where
+  module _ (h : loaderSize ≤ length kept) (f : Fields) (fields : f ≡ fieldsIn kept) (b : Bool) (is : b ≡ sensible f) where
     pub holds-record : b ≡ true → f ≡ streamIn kept
     unfolding streamIn
     holds-record e = fields ∙ rw (le-leb loaderSize (length kept) h, ap sensible (sym fields) ∙ sym is ∙ e)
 
-    pub holds-none : b ≡ false → (s : Stream) → s ≡ streamOf blank → s ≡ streamIn kept
+    pub holds-none : b ≡ false → (s : Fields) → s ≡ fieldsOf blank → s ≡ streamIn kept
     unfolding streamIn
     holds-none e s es = es ∙ rw (le-leb loaderSize (length kept) h, ap sensible (sym fields) ∙ sym is ∙ e)
 
@@ -158,7 +159,7 @@ marked-last n false false h = (λ e. apart (sym e), λ e. apart (sym e))
 within-is : (l : LoopAt) (o : ℕ) → loopsWithin l o ≡ true → (n : ℕ) → l ≡ LoopAt.At n → n ≤ o
 within-is l o h n e = leb-true n o (rw e at h)
 
-sensible-good : (s : Stream) (kept : List ℕ) → sensible s ≡ true → Good (writerOf (tableIn kept cuesAt (s .count)) s)
+sensible-good : (s : Fields) (kept : List ℕ) → sensible s ≡ true → Good (writerOf (tableIn kept cuesAt (s .count)) s)
 unfolding sensible placesGood sumsGood
 sensible-good s kept h =
     let h₁ = both _ _ h in
@@ -188,7 +189,7 @@ sensible-good s kept h =
       done = m .1;
     }
 
-blank-kept : (kept : List ℕ) → Good (writerOf (tableIn kept cuesAt 0) (streamOf blank))
+blank-kept : (kept : List ℕ) → Good (writerOf (tableIn kept cuesAt 0) (fieldsOf blank))
 unfolding tableIn cuesFrom
 blank-kept kept = blank-good
 
@@ -224,12 +225,10 @@ module _ (m : Looping) (l : LoopAt) (b : Bool) where
     held-on f c is = rw (e, f) is
 
 -- where it does not count it changes no loop block
-pub loop-same : (s : Stream) (b asked : Bool) (end : ℕ) (last : Bool) → loopFrom s (heldIn (s .mode) (s .loopat) b) asked end last ≡ loopFrom s b asked end last
-unfolding loopFrom loopsTo heldIn
-loop-same s b asked end last = same (s .mode) (s .loopat)
-  where
-    same : (m : Looping) (l : LoopAt) → orAt l (pick (loopsTo m (heldIn m l b) asked end last) (LoopAt.At (s .offset)) LoopAt.Nowhere) ≡ orAt l (pick (loopsTo m b asked end last) (LoopAt.At (s .offset)) LoopAt.Nowhere)
-    same m (LoopAt.At n) = refl
-    same Looping.Disabled LoopAt.Nowhere = refl
-    same Looping.Enabled LoopAt.Nowhere = refl
-    same Looping.Auto LoopAt.Nowhere = refl
+pub loop-same : (m : Looping) (l : LoopAt) (offset : ℕ) (b asked : Bool) (end : ℕ) (last : Bool)
+    → loopFrom l offset (loopsHere m (heldIn m l b) asked end last) ≡ loopFrom l offset (loopsHere m b asked end last)
+unfolding loopsHere heldIn
+loop-same m (LoopAt.At n) offset b asked end last = refl
+loop-same Looping.Disabled LoopAt.Nowhere offset b asked end last = refl
+loop-same Looping.Enabled LoopAt.Nowhere offset b asked end last = refl
+loop-same Looping.Auto LoopAt.Nowhere offset b asked end last = refl

@@ -11,10 +11,11 @@ use Rattle.writer.specs.Calls.{blank}
 use Rattle.writer.specs.declared.Looping.{Looping}
 use Rattle.writer.specs.declared.LoopAt.{LoopAt}
 use Rattle.writer.specs.declared.HpsWriter.{HpsWriter}
-use Rattle.taking.specs.Taking.{tallied, takesTo, takenTo}
+use Rattle.taking.specs.Taking.{tallied}
+use Rattle.writer.specs.Push.{countTaken, cuesTaken}
 use Rattle.taking.specs.declared.Taken.{Taken}
-use Rattle.push_plan.specs.PushPlan.{streamOf, writerOf}
-use Rattle.push_plan.specs.declared.Stream.{Stream}
+use Rattle.kept_sides.specs.Fields.{fieldsOf, writerOf}
+use Rattle.kept_sides.specs.declared.Fields.{Fields}
 use Rattle.kept_reader.specs.KeptReader.{wordAt, longAt}
 use Rattle.kept_sides.specs.KeptSides.{sideIn, tableIn, loaderSize, cuesAt, leftAt, rightAt}
 
@@ -31,7 +32,7 @@ unfoldable pub loopOf : ℕ → LoopAt
 loopOf n = pick (eqb n nowhere) LoopAt.Nowhere (LoopAt.At n)
 
 -- The numbers of the record as they stand there.
-unfoldable pub fieldsIn : List ℕ → Stream
+unfoldable pub fieldsIn : List ℕ → Fields
 fieldsIn kept =
     record { slot = longAt kept 0; channels = longAt kept 8; mode = modeOf (wordAt kept 72); count = longAt kept 16; next = longAt kept 24; id = wordAt kept 76; base = longAt kept 32; offset = longAt kept 40; loopat = loopOf (longAt kept 64); blocks = longAt kept 48; sum = longAt kept 56; left = sideIn kept leftAt; right = sideIn kept rightAt; last = not (eqb (wordAt kept 80) 0); finished = not (eqb (wordAt kept 84) 0) }
 
@@ -53,7 +54,7 @@ loopsWithin LoopAt.Nowhere offset = true
 loopsWithin (LoopAt.At n) offset = leb n offset
 
 -- Whether the numbers can be those of a record that a loading call gives.
-unfoldable pub sensible : Stream → Bool
+unfoldable pub sensible : Fields → Bool
 sensible s =
     placesGood (s .slot) (s .offset) (s .count) (s .next) (s .id)
     and (sumsGood (s .blocks) (s .base) (s .sum)
@@ -61,8 +62,8 @@ sensible s =
     and loopsWithin (s .loopat) (s .offset)))
 
 -- The record without its table; that of a refused begin, of a slot of no bytes, where the bytes hold none.
-unfoldable pub streamIn : List ℕ → Stream
-streamIn kept = pick (leb loaderSize (length kept) and sensible (fieldsIn kept)) (fieldsIn kept) (streamOf blank)
+unfoldable pub streamIn : List ℕ → Fields
+streamIn kept = pick (leb loaderSize (length kept) and sensible (fieldsIn kept)) (fieldsIn kept) (fieldsOf blank)
 
 -- The whole record: its table stands after the rest.
 abbrev pub writerIn : List ℕ → HpsWriter
@@ -73,7 +74,7 @@ writerIn kept = writerOf (tableIn kept cuesAt (streamIn kept .count)) (streamIn 
 -- What a block takes of the table.
 abbrev pub takenIn : List ℕ → (from count end : ℕ) (last : Bool) → Taken
 takenIn kept from n end last =
-    tallied (from + takesTo (tableIn kept cuesAt n) from n end last) (takenTo (tableIn kept cuesAt n) from n end last)
+    tallied (from + countTaken (tableIn kept cuesAt n) from n end last) (cuesTaken (tableIn kept cuesAt n) from n end last)
 
 -- Whether the table has a Loop, as far as that counts: under Enabled, before there is a loop block.
 unfoldable pub heldIn : Looping → LoopAt → (held : Bool) → Bool

@@ -1,6 +1,7 @@
 // The writer's record in bytes.
 use kept_reader::fields::long;
 use kept_reader::fields::word;
+use kept_sides::Fields;
 use kept_sides::cues_in;
 use kept_sides::places::BASE_AT;
 use kept_sides::places::BLOCKS_AT;
@@ -25,15 +26,17 @@ use layout::limits::BLOCK_LIMIT;
 use layout::limits::CUE_LIMIT;
 use layout::limits::LENGTH_LIMIT;
 use layout::limits::SLOT_LIMIT;
-use push_plan::Stream;
 use taking::Taken;
 use taking::any_loop;
 use taking::put_taken;
 use taking::take;
 use writer::ChannelBlock;
+use writer::CueTable;
 use writer::HpsWriter;
 use writer::LoopAt;
 use writer::Looping;
+use writer::Setup;
+use writer::Stream;
 ghost use mathlib.Core.Path.{_≡_};
 ghost use Prim.Native.Nat.{_+_, _*_, _<_, _≤_, _^_};
 ghost use lib.ListN.{length};
@@ -42,7 +45,7 @@ ghost use Rattle.layout.specs.Records.{P};
 ghost use Rattle.layout.specs.Puts.{putAt};
 ghost use Rattle.writer.specs.Loading.{anyLoop};
 ghost use Rattle.writer.specs.Calls.{blank};
-ghost use Rattle.push_plan.specs.PushPlan.{streamOf};
+ghost use Rattle.kept_sides.specs.Fields.{setupOf, streamOf, withStream, fieldsOf};
 ghost use Rattle.kept_writer.specs.KeptWriter.{modeOf, loopOf, fieldsIn, placesGood, sumsGood, marksGood, loopsWithin, sensible, streamIn, writerIn, takenIn, heldIn};
 ghost use Rattle.taking.specs.Taking.{filledBytes, Taking};
 ghost use Rattle.kept_sides.specs.KeptSides.{tableIn, cuesAt};
@@ -129,7 +132,7 @@ fn marks_good(blocks: usize, last: bool, finished: bool) -> bool
 }
 
 // Whether the numbers can be those of a record that a loading call gives.
-fn is_sensible(s: Stream) -> bool
+fn is_sensible(s: Fields) -> bool
     ensures { λ b. ⌜ b ≡ sensible s ⌝ }
 {
     if !places_good(s.slot, s.offset, s.count, s.next, s.id) {
@@ -146,14 +149,14 @@ fn is_sensible(s: Stream) -> bool
 }
 
 // The numbers of the record as they stand there.
-fn fields_in(kept: &[u8]) -> Stream
+fn fields_in(kept: &[u8]) -> Fields
     ensures { λ s. ⌜ s ≡ fieldsIn (now (kept .entry)) ⌝ }
 {
     let mode = mode_of(word(kept, MODE_AT));
     let loopat = loop_of(long(kept, LOOP_AT));
     let left = side_in(kept, LEFT_AT);
     let right = side_in(kept, RIGHT_AT);
-    Stream {
+    Fields {
         slot: long(kept, SLOT_AT) as usize,
         channels: long(kept, CHANNELS_AT) as usize,
         mode,
@@ -173,8 +176,8 @@ fn fields_in(kept: &[u8]) -> Stream
 }
 
 // The record of a refused begin, of a slot of no bytes: it stands for bytes that hold no record.
-fn no_stream() -> Stream
-    ensures { λ s. ⌜ s ≡ streamOf blank ⌝ }
+fn no_stream() -> Fields
+    ensures { λ s. ⌜ s ≡ fieldsOf blank ⌝ }
 {
     let side = ChannelBlock {
         rate: 0,
@@ -187,7 +190,7 @@ fn no_stream() -> Stream
             oldest: 0,
         },
     };
-    Stream {
+    Fields {
         slot: 0,
         channels: 0,
         mode: Looping::Disabled,
@@ -207,7 +210,7 @@ fn no_stream() -> Stream
 }
 
 // The record that lent bytes hold, without its table.
-pub fn stream_in(kept: &[u8]) -> Stream
+pub fn stream_in(kept: &[u8]) -> Fields
     ensures { λ s. ⌜ s ≡ streamIn (now (kept .entry)) ⌝ }
 {
     if kept.len() < LOADER_SIZE {
@@ -217,22 +220,24 @@ pub fn stream_in(kept: &[u8]) -> Stream
     if is_sensible(s) { s } else { no_stream() }
 }
 
-// The whole record. Whatever the bytes are, it meets the premise of the loading calls.
-pub fn writer_in(kept: &[u8]) -> HpsWriter
-    ensures { λ w. ⌜ w ≡ writerIn (now (kept .entry)) ⌝ }
+pub fn setup_of(s: Fields) -> Setup
+    ensures { λ r. ⌜ r ≡ setupOf s ⌝ }
 {
-    let s = stream_in(kept);
     let mode = s.mode;
-    let loopat = s.loopat;
-    let left = s.left;
-    let right = s.right;
-    let cues = cues_in(kept, CUES_AT, s.count);
-    HpsWriter {
+    Setup {
         slot: s.slot,
         channels: s.channels,
         mode,
-        cues,
-        count: s.count,
+    }
+}
+
+pub fn stream_of(s: Fields) -> Stream
+    ensures { λ r. ⌜ r ≡ streamOf s ⌝ }
+{
+    let loopat = s.loopat;
+    let left = s.left;
+    let right = s.right;
+    Stream {
         next: s.next,
         id: s.id,
         base: s.base,
@@ -243,6 +248,75 @@ pub fn writer_in(kept: &[u8]) -> HpsWriter
         left,
         right,
         last: s.last,
+    }
+}
+
+// The fields with another stream.
+pub fn with_stream(f: Fields, s: Stream) -> Fields
+    ensures { λ r. ⌜ r ≡ withStream f s ⌝ }
+{
+    let loopat = s.loopat;
+    let left = s.left;
+    let right = s.right;
+    Fields {
+        next: s.next,
+        id: s.id,
+        base: s.base,
+        offset: s.offset,
+        loopat,
+        blocks: s.blocks,
+        sum: s.sum,
+        left,
+        right,
+        last: s.last,
+        ..f
+    }
+}
+
+// The fields of a record.
+pub fn fields_of(w: HpsWriter) -> Fields
+    ensures { λ f. ⌜ f ≡ fieldsOf w ⌝ }
+{
+    let setup = w.setup;
+    let mode = setup.mode;
+    let s = w.stream;
+    let loopat = s.loopat;
+    let left = s.left;
+    let right = s.right;
+    Fields {
+        slot: setup.slot,
+        channels: setup.channels,
+        mode,
+        count: w.table.count,
+        next: s.next,
+        id: s.id,
+        base: s.base,
+        offset: s.offset,
+        loopat,
+        blocks: s.blocks,
+        sum: s.sum,
+        left,
+        right,
+        last: s.last,
+        finished: w.finished,
+    }
+}
+
+// The whole record. Whatever the bytes are, it meets the premise of the loading calls.
+pub fn writer_in(kept: &[u8]) -> HpsWriter
+    ensures { λ w. ⌜ w ≡ writerIn (now (kept .entry)) ⌝ }
+{
+    let s = stream_in(kept);
+    let setup = setup_of(s);
+    let stream = stream_of(s);
+    let cues = cues_in(kept, CUES_AT, s.count);
+    HpsWriter {
+        setup,
+        table: CueTable {
+            cues,
+            count: s.count,
+        },
+        stream,
         finished: s.finished,
     }
 }

@@ -11,7 +11,7 @@ use Rattle.layout.specs.Lists.{sum}
 use Rattle.layout.proofs.Cases.{by-cases, apart}
 use Rattle.writer.specs.WritesAndCuttingRule.{Write, write, placeOf, handed, writesIn, mostWrites}
 use Rattle.writer.specs.Loading.{Push, refused, accepted, beginRefusal, beginWrites, pushRefusal, finishRefusal, blockSize, headerWrites}
-use Rattle.writer.specs.Calls.{outcome, writes, called, finished, handedOut, whereAccepted, blank, emptyOf, beginOf, takenOf, standingIn, nextFor, endFor, pushBytes, afterPush, pushOf, headerOf, afterFinish, finishOf, Good}
+use Rattle.writer.specs.Calls.{outcome, writes, called, finished, handedOut, whereAccepted, blank, emptyOf, beginOf, takenOf, standingIn, nextFor, pushBytes, afterPush, pushOf, headerOf, afterFinish, finishOf, Good}
 use Rattle.writer.specs.declared.Place.{Place}
 use Rattle.writer.specs.declared.Looping.{Looping}
 use Rattle.writer.specs.declared.HpsWriter.{HpsWriter}
@@ -26,6 +26,7 @@ use Rattle.noted.proofs.NotedLaws.{none-listed, notes-long}
 use Rattle.noted_calls.specs.NotedCalls.{lentOf, Tally, MadeBy, Begun}
 use Rattle.layout.specs.Refusals.{blockLimit, keyLimit}
 use Rattle.layout.specs.Records.{fileHeaderSize}
+use Rattle.writer.specs.Push.{advanced}
 
 -- The writes that are handed out lie in the lent buffer.
 sizes-are : (ws : List Write) → sizes (map placeOf ws) ≡ length (handed ws)
@@ -60,7 +61,7 @@ module _ (n : ℕ) (w : HpsWriter) (lent : List ℕ) (next : HpsWriter) (m : ℕ
 
   -- What it must leave counted.
   abbrev Counts : Type 0
-  Counts = eqb n 0 ≡ true → (next .slot ≤ keyLimit) × (next .finished ≡ false → (j .count + length ws ≡ suc (next .blocks)) × (j .total + length (handed ws) + 127 ≡ next .offset))
+  Counts = eqb n 0 ≡ true → (next .setup .slot ≤ keyLimit) × (next .finished ≡ false → (j .count + length ws ≡ suc (next .stream .blocks)) × (j .total + length (handed ws) + 127 ≡ next .stream .offset))
 
   tally-after : {q : Noted} {after : List ℕ} → Tally j w kept → Counts → Notes j kept (outcome n w lent next m ws .lent) (outcome n w lent next m ws .places) q after → Tally q (outcome n w lent next m ws .writer) after
   unfolding sizes sum
@@ -100,30 +101,30 @@ module _ (w : HpsWriter) (p : Push) (lent : List ℕ) {j : Noted} {kept : List �
   n = pushRefusal (standingIn w) (takenOf w p) p (length lent)
 
   block : Write
-  block = write (w .offset) (pushBytes w p)
+  block = write (w .stream .offset) (pushBytes w p)
 
   size : length (handed (block ∷ [])) ≡ blockSize (takenOf w p) p
   unfolding block pushBytes
-  size = one-handed (w .offset) (pushBytes w p) ∙ bytes-length (nextFor w p) (w .base) (w .id) (takenOf w p) p
+  size = one-handed (w .stream .offset) (pushBytes w p) ∙ bytes-length (nextFor w p) (w .stream .base) (w .stream .id) (takenOf w p) p
 
   -- No push is accepted after the last block, so none after a finish.
   unfinished : eqb n 0 ≡ true → w .finished ≡ false
-  unfolding n pushRefusal
+  unfolding n
   unfinished q =
-      let f = passed _ _ _ _ _ _ _ _ _ _ _ _ _ (eqb-true _ 0 q) in
+      let f = passed _ _ p _ (eqb-true _ 0 q) in
       by-cases (w .finished) (λ d. apart (sym (g .done d) ∙ f .no26)) (λ d. d)
 
   push-fits : Fits n w lent (afterPush w p) 0 (block ∷ []) j kept
-  unfolding n pushRefusal block
+  unfolding n block
   push-fits q =
-      let f = passed _ _ _ _ _ _ _ _ _ _ _ _ _ (eqb-true _ 0 q) in
-      let fit = ltb-false (w .slot) (w .offset + blockSize (takenOf w p) p) (f .no24) in
-      let many = leb-false blockLimit (w .blocks) (f .no25) in
+      let f = passed _ _ p _ (eqb-true _ 0 q) in
+      let fit = ltb-false (w .setup .slot) (w .stream .offset + blockSize (takenOf w p) p) (f .no24) in
+      let many = leb-false blockLimit (w .stream .blocks) (f .no25) in
       let u = unfinished q in
       (omega (arith, t .many u), omega (arith, t .bytes u, t .small, t .room, size))
 
   push-counts : Counts n w lent (afterPush w p) 0 (block ∷ []) j kept
-  unfolding afterPush endFor block
+  unfolding afterPush advanced block
   push-counts q = (t .small, λ u. (omega (arith, t .many u), omega (arith, t .bytes u, size)))
 
   module _ {call : Called} {l : List ℕ} (e : call ≡ called (pushOf w p lent)) (el : l ≡ pushOf w p lent .lent) where
@@ -149,7 +150,7 @@ module _ (w : HpsWriter) (p : Push) (lent : List ℕ) {j : Noted} {kept : List �
 
 module _ (w : HpsWriter) (lent : List ℕ) {j : Noted} {kept : List ℕ} (g : Good w) (t : Tally j w kept) where
   number : ℕ
-  number = finishRefusal (w .finished) (w .blocks) (w .last) (length lent)
+  number = finishRefusal (w .finished) (w .stream .blocks) (w .stream .last) (length lent)
 
   header : List Write
   header = headerWrites (headerOf w)
@@ -163,13 +164,13 @@ module _ (w : HpsWriter) (lent : List ℕ) {j : Noted} {kept : List ℕ} (g : Go
       let c = take 1 (drop 15 h) in
       omega (arith, length-append a (b ++ (c ++ [])), length-append b (c ++ []), length-append c [], length-take 15 h, length-take 112 (drop 16 h), length-take 1 (drop 15 h))
 
-  finish-fits : Fits number w lent (afterFinish w) (w .offset) header j kept
+  finish-fits : Fits number w lent (afterFinish w) (w .stream .offset) header j kept
   unfolding number header
   finish-fits q =
       let u = passed-finish _ _ _ _ (eqb-true _ 0 q) .no26 in
       (omega (arith, t .many u, g .many), omega (arith, t .bytes u, t .small, t .room, g .room, header-size))
 
-  finish-counts : Counts number w lent (afterFinish w) (w .offset) header j kept
+  finish-counts : Counts number w lent (afterFinish w) (w .stream .offset) header j kept
   unfolding afterFinish
   finish-counts q = (t .small, λ u. apart u)
 
@@ -179,11 +180,11 @@ module _ (w : HpsWriter) (lent : List ℕ) {j : Noted} {kept : List ℕ} (g : Go
 
     three : Three ≡ finishOf w lent .places
     unfolding finishOf
-    three = rw e (by-cases (eqb (finishRefusal (w .finished) (w .blocks) (w .last) (length lent)) 0) (λ q. rw q) (λ q. rw q))
+    three = rw e (by-cases (eqb (finishRefusal (w .finished) (w .stream .blocks) (w .stream .last) (length lent)) 0) (λ q. rw q) (λ q. rw q))
 
     pub finish-room : Room j kept l Three
     unfolding finishOf number header
-    finish-room = rw (three, el) (room-for number w lent (afterFinish w) (w .offset) header j kept (t .listed) finish-fits)
+    finish-room = rw (three, el) (room-for number w lent (afterFinish w) (w .stream .offset) header j kept (t .listed) finish-fits)
 
     pub finish-made : {q : Noted} {after : List ℕ} → Good (call .writer) → Notes j kept l Three q after
         → MadeBy (finishOf w lent) j kept (record { writer = call .writer; reply = call .reply; noted = q }) after
@@ -194,7 +195,7 @@ module _ (w : HpsWriter) (lent : List ℕ) {j : Noted} {kept : List ℕ} (g : Go
           writer = ap (λ (c : Finished). c .writer) e;
           reply = ap (λ (c : Finished). c .reply) e;
           good = good;
-          tally = rw e (tally-after number w lent (afterFinish w) (w .offset) header j kept t finish-counts k);
+          tally = rw e (tally-after number w lent (afterFinish w) (w .stream .offset) header j kept t finish-counts k);
           is = k .is;
           put = k .put;
         }

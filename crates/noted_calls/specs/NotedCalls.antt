@@ -31,9 +31,9 @@ lentOf n = replicate (min n longLent) 0
 pub record Tally (j : Noted) (w : HpsWriter) (kept : List ℕ) : Type 0 where
   pub listed : Listed j kept
   pub room : logSize ≤ length kept
-  pub small : w .slot ≤ keyLimit
-  pub many : w .finished ≡ false → j .count ≡ suc (w .blocks)
-  pub bytes : w .finished ≡ false → j .total + 127 ≡ w .offset
+  pub small : w .setup .slot ≤ keyLimit
+  pub many : w .finished ≡ false → j .count ≡ suc (w .stream .blocks)
+  pub bytes : w .finished ≡ false → j .total + 127 ≡ w .stream .offset
 
 -- What a call leaves: record and answer are the call's, and its writes are noted after the others, with their bytes; a refused call's are none.
 pub record MadeBy (o : Outcome) (j : Noted) (kept : List ℕ) (m : Made) (after : List ℕ) : Type 0 where

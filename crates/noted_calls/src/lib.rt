@@ -14,7 +14,7 @@ use writer::Reply;
 use writer::begin;
 ghost use mathlib.Core.Path.{_≡_};
 ghost use lib.ListN.{length, replicate};
-ghost use Rattle.push_due.specs.PushDue.{pushArgs};
+ghost use Rattle.writer.specs.Loading.{pushArgs};
 ghost use Rattle.writer.specs.Calls.{Good, beginOf, pushOf, finishOf};
 ghost use Rattle.noted_calls.specs.NotedCalls.{lentOf, Tally, MadeBy, Begun};
 ghost use Rattle.layout.specs.Refusals.{keyLimit};

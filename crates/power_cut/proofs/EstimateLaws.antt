@@ -2,15 +2,15 @@
 use Prim.Native.Nat.{ℕ, _+_, _*_, _≤_}
 use mathlib.Core.Path.{_≡_, refl, ap, sym, _∙_}
 use mathlib.Core.Bool.{false}
-use mathlib.Core.List.{List, [], _∷_, map}
+use mathlib.Core.List.{List, map}
 use mathlib.Core.Logic.{_⊎_, ⊎-elim}
 use native.Mathlib.Omega.{arith}
 use borrow.Author.Tests.{le-ltb, eq-eqb, ne-eqb}
 use lib.ListN.{length, length-map}
 use Rattle.layout.specs.Lists.{sum}
-use Rattle.layout.specs.Records.{P, sizeOf, adpcmBytes}
+use Rattle.layout.specs.Records.{P, adpcmBytes, alignment, blockHeaderSize}
 use Rattle.layout.specs.Refusals.{firstDue, wrongCount, blockLimit}
-use Rattle.writer.specs.Loading.{accepted, lengthOf, points, dataOf}
+use Rattle.writer.specs.Loading.{accepted, lengthOf, points, dataSize}
 use Rattle.writer.specs.Estimate.{lengthsDue, estimateRefusal, estimated, estimateOf}
 use Rattle.power_cut.specs.LoadingBook.{Block, Book, endOf, endOfBlocks}
 use Rattle.power_cut.specs.PowerCut.{estimates}
@@ -39,22 +39,22 @@ passes b h =
 
 -- ---- The bound
 
-filled-most : (n : ℕ) → P (8 * n) ≤ 32 * n
+filled-most : (n : ℕ) → P (8 * n) ≤ alignment * n
 unfolding P
 filled-most n = omega arith
 
-size-is : {ch : ℕ} (k : Block) → (ch ≡ 1) ⊎ (ch ≡ 2) → BlockOk ch k → sizeOf (dataOf (k .push)) ≡ ch * P (adpcmBytes (lengthOf (k .push)))
-unfolding sizeOf sum
+size-is : {ch : ℕ} (k : Block) → (ch ≡ 1) ⊎ (ch ≡ 2) → BlockOk ch k → dataSize (k .push .channels) (length (k .push .left .bytes)) (length (k .push .right .bytes)) ≡ ch * P (adpcmBytes (lengthOf (k .push)))
+unfolding dataSize
 size-is {ch} k c ok =
     ⊎-elim
     (λ e. rw (ne-eqb (k .push .channels) 2 (λ q. omega (arith, ok .same))) (rw (ok .left .long) (rw e (omega arith))))
     (λ e. rw (eq-eqb (k .push .channels) 2 (ok .same ∙ e)) (rw (ok .left .long, ok .right e .long) (rw e (omega arith)))) c
 
-block-most : {ch : ℕ} (k : Block) → (ch ≡ 1) ⊎ (ch ≡ 2) → BlockOk ch k → endOf k ≤ k .offset + (32 + ch * P (adpcmBytes (lengthOf (k .push)))) + 32 * points (k .cues)
+block-most : {ch : ℕ} (k : Block) → (ch ≡ 1) ⊎ (ch ≡ 2) → BlockOk ch k → endOf k ≤ k .offset + (blockHeaderSize + ch * P (adpcmBytes (lengthOf (k .push)))) + alignment * points (k .cues)
 block-most k c ok = omega (arith, size-is k c ok, filled-most (points (k .cues)))
 
 chain-most : {ch o a : ℕ} {bs : List Block} → (ch ≡ 1) ⊎ (ch ≡ 2) → Chained ch o a bs
-    → endFrom o bs ≤ o + sum (λ n. 32 + ch * P (adpcmBytes n)) (lengths bs) + 32 * namedBy bs
+    → endFrom o bs ≤ o + sum (λ n. blockHeaderSize + ch * P (adpcmBytes n)) (lengths bs) + alignment * namedBy bs
 unfolding endFrom sum
 chain-most c Chained.none = omega arith
 chain-most w (Chained.more {k = k} e f ok c) = omega (arith, block-most k w ok, chain-most w c)

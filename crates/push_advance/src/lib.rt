@@ -1,13 +1,13 @@
 // The stream after a push (document 01, "Loading").
-use push_plan::Stream;
 use taking::Taken;
 use writer::ChannelBlock;
 use writer::LoopAt;
+use writer::Stream;
 ghost use mathlib.Core.Path.{_≡_};
 ghost use Prim.Native.Nat.{_+_, _<_, _≤_, _^_};
 ghost use lib.Dec.{eqb};
 ghost use Rattle.layout.specs.Choice.{pick};
-ghost use Rattle.push_plan.specs.PushPlan.{advanced};
+ghost use Rattle.writer.specs.Push.{advanced};
 ghost use Rattle.layout.specs.Refusals.{cueLimit, blockLimit};
 
 // The first block's side.
@@ -29,7 +29,7 @@ pub fn advance(
     last: bool,
 ) -> Stream
     requires { ⌜ (s .id + taken .points < 2 ^ 32) × (s .blocks < blockLimit) × (taken .points ≤ cueLimit) × (s .offset + size < 2 ^ 64) × (s .sum + left .length < 2 ^ 64) ⌝ }
-    ensures { λ r. ⌜ r ≡ advanced s taken end size loopat left right last ⌝ }
+    ensures { λ r. ⌜ r ≡ advanced s (taken .to) (taken .points) end size loopat left right last ⌝ }
 {
     let first = s.left;
     let second = s.right;
@@ -46,6 +46,5 @@ pub fn advance(
         left: l,
         right: r,
         last,
-        ..s
     }
 }

@@ -2,7 +2,7 @@
 use Prim.Native.Nat.{ℕ}
 use mathlib.Core.Bool.{Bool}
 use Rattle.writer.specs.declared.ChannelBlock.{ChannelBlock}
-use Rattle.push_due.specs.PushDue.{stateDue, rateDue, lengthDue, dataDue, coefficientsDue, earlyDue}
+use Rattle.writer.specs.Loading.{stateDue, rateDue, lengthDue, dataDue, coefficientsDue, earlyDue}
 use Rattle.push_due.proofs.DecideLaws.{Numbered, none, more, group-yes, group-no}
 
 pub state-numbered : (last : Bool) (own n ch : ℕ) → Numbered (stateDue last own n ch)

@@ -4,7 +4,7 @@ use sizes::adpcm_bytes;
 use sizes::size_limit;
 ghost use mathlib.Core.Path.{_≡_};
 ghost use Rattle.layout.specs.Refusals.{firstDue};
-ghost use Rattle.push_due.specs.PushDue.{differ, changed, stateDue, rateDue, lengthDue};
+ghost use Rattle.writer.specs.Loading.{differ, changed, stateDue, rateDue, lengthDue};
 
 // 26, 29, 25
 pub fn state_due(last: bool, own: usize, blocks: usize, channels: usize) -> u32

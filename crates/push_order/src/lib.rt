@@ -7,7 +7,7 @@ use sides_due::data_due;
 use writer::ChannelBlock;
 ghost use mathlib.Core.Path.{_≡_};
 ghost use Rattle.layout.specs.Refusals.{firstDue};
-ghost use Rattle.push_due.specs.PushDue.{earlyDue, roomDue};
+ghost use Rattle.writer.specs.Loading.{earlyDue, roomDue};
 
 // All before 24: by what the record keeps, the first block's sides among it, and the push.
 pub fn early_due(

@@ -1,102 +1,100 @@
 -- For the proof of the plan: the loop block, the sizes, and what follows where no number is due.
 use Prim.Native.Nat.{ℕ, _+_, _-_, _*_, _<_, _≤_}
-use mathlib.Core.Path.{_≡_, refl, ap, sym, _∙_}
+use mathlib.Core.Path.{_≡_, ap, sym, _∙_}
 use mathlib.Core.Bool.{Bool, true, false, not}
-use mathlib.Core.List.{List, _++_}
 use native.Mathlib.Omega.{arith}
-use borrow.Author.Tests.{ltb-false, leb-false, eq-eqb, ne-eqb, eqb-true, lt-ltb, le-ltb, not-false}
+use borrow.Author.Tests.{ltb-false, leb-false, eq-eqb, ne-eqb, eqb-true, not-false}
 use lib.Dec.{ltb, eqb, lit<}
-use Rattle.layout.specs.Choice.{pick, _and_}
-use Rattle.layout.specs.Records.{P, adpcmBytes, adpcmSamples, dataAfter}
-use Rattle.layout.specs.Refusals.{Due, firstDue, cueLimit, blockLimit, lengthLimit, monoLimit}
-use Rattle.layout.specs.Sizes.{saturated}
+use Rattle.layout.specs.Choice.{_and_}
+use Rattle.layout.specs.Records.{P, adpcmBytes, adpcmSamples, dataAfter, blockHeaderSize}
+use Rattle.layout.specs.Refusals.{firstDue, cueLimit, blockLimit, lengthLimit, monoLimit}
+use Rattle.layout.specs.Sizes.{usizeMax, saturated}
 use Rattle.layout.specs.declared.FrameContext.{FrameContext}
-use Rattle.layout.proofs.SizeLaws.{aligned}
+use Rattle.layout.proofs.SizeLaws.{aligned, saturated-fits, saturated-over}
 use Rattle.layout.proofs.Cases.{by-cases, apart, or-false, none-due}
-use Rattle.writer.specs.Calls.{orAt, atOrNone}
+use Rattle.writer.specs.Push.{loopsHere, loopFrom, nextOffset}
 use Rattle.writer.specs.declared.Looping.{Looping}
 use Rattle.writer.specs.declared.Looping.the-variants.{Disabled, Enabled, Auto}
 use Rattle.writer.specs.declared.LoopAt.{LoopAt}
 use Rattle.writer.specs.declared.LoopAt.the-variants.{Nowhere, At}
 use Rattle.writer.specs.declared.ChannelBlock.{ChannelBlock}
 use Rattle.writer.proofs.GoodLaws.{short-length, looped-after}
-use Rattle.push_due.specs.PushDue.{stateDue, rateDue, lengthDue, dataDue, coefficientsDue, earlyDue, roomDue}
+use Rattle.writer.specs.Loading.{dataSize, secondContext, stateDue, rateDue, lengthDue, dataDue, coefficientsDue, earlyDue, roomDue}
 use Rattle.push_due.proofs.DecideLaws.{group-yes, group-no}
 use Rattle.push_due.proofs.GroupLaws.{early-numbered}
 use Rattle.taking.specs.declared.Taken.{Taken}
-use Rattle.push_plan.specs.PushPlan.{endFrom, paddedSize, sizeFor, secondContext, loopsTo, loopFrom, planDue, headerIn, noPlan, madePlan, planOf, Sound}
-use Rattle.push_plan.specs.declared.Stream.{Stream}
+use Rattle.push_plan.specs.PushPlan.{planDue, headerIn, noPlan, madePlan, planOf, Sound}
+use Rattle.writer.specs.declared.Setup.{Setup}
+use Rattle.writer.specs.declared.Stream.{Stream}
 use Rattle.push_plan.specs.declared.Plan.{Plan}
 
 -- ---- The sample that a block ends before
 
-module _ (base n : ℕ) where
-  pub end-kept : lengthLimit < n → base ≡ endFrom base n
-  unfolding endFrom
-  end-kept h = rw (lt-ltb lengthLimit n h)
+module _ (base n s : ℕ) (e : s ≡ adpcmSamples n) where
+  pub end-fits : s ≤ usizeMax - base → base ≤ usizeMax → base + s ≡ saturated (base + adpcmSamples n)
+  end-fits h b = rw e (sym (saturated-fits _ (omega arith)))
 
-  pub end-later : n ≤ lengthLimit → (s : ℕ) → s ≡ adpcmSamples n → base + s ≡ endFrom base n
-  unfolding endFrom
-  end-later h s e = rw (le-ltb lengthLimit n h, e)
+  pub end-over : usizeMax - base < s → base ≤ usizeMax → usizeMax ≡ saturated (base + adpcmSamples n)
+  end-over h b = rw (← e) (sym (saturated-over _ (omega arith)))
 
 -- ---- The loop block
 
 module _ (mode : Looping) (held asked : Bool) (end : ℕ) (last : Bool) where
-  pub loops-off : mode ≡ Disabled → false ≡ loopsTo mode held asked end last
-  unfolding loopsTo
+  pub loops-off : mode ≡ Disabled → false ≡ loopsHere mode held asked end last
+  unfolding loopsHere
   loops-off m = rw m
 
-  pub loops-asked : mode ≡ Auto → asked ≡ loopsTo mode held asked end last
-  unfolding loopsTo
+  pub loops-asked : mode ≡ Auto → asked ≡ loopsHere mode held asked end last
+  unfolding loopsHere
   loops-asked m = rw m
 
   module _ (m : mode ≡ Enabled) where
-    pub loops-held : held ≡ true → asked ≡ loopsTo mode held asked end last
-    unfolding loopsTo
+    pub loops-held : held ≡ true → asked ≡ loopsHere mode held asked end last
+    unfolding loopsHere
     loops-held h = rw (m, h)
 
-    pub loops-last : held ≡ false → last ≡ true → true ≡ loopsTo mode held asked end last
-    unfolding loopsTo
+    pub loops-last : held ≡ false → last ≡ true → true ≡ loopsHere mode held asked end last
+    unfolding loopsHere
     loops-last h l = rw (m, h, l)
 
-    pub loops-past : held ≡ false → last ≡ false → ltb 0 end ≡ loopsTo mode held asked end last
-    unfolding loopsTo
+    pub loops-past : held ≡ false → last ≡ false → ltb 0 end ≡ loopsHere mode held asked end last
+    unfolding loopsHere
     loops-past h l = rw (m, h, l)
 
 module _ (loopat : LoopAt) (offset : ℕ) (due : Bool) where
-  pub stays-at : (n : ℕ) → loopat ≡ At n → loopat ≡ orAt loopat (pick due (At offset) Nowhere)
+  pub stays-at : (n : ℕ) → loopat ≡ At n → loopat ≡ loopFrom loopat offset due
   stays-at n e = rw e
 
   module _ (e : loopat ≡ Nowhere) where
-    pub starts-here : due ≡ true → At offset ≡ orAt loopat (pick due (At offset) Nowhere)
+    pub starts-here : due ≡ true → At offset ≡ loopFrom loopat offset due
     starts-here h = rw (h, e)
 
-    pub starts-not : due ≡ false → Nowhere ≡ orAt loopat (pick due (At offset) Nowhere)
+    pub starts-not : due ≡ false → Nowhere ≡ loopFrom loopat offset due
     starts-not h = rw (h, e)
 
 -- ---- Sizes
 
 module _ (ch l r x : ℕ) (small : l ≤ monoLimit) (is : x ≡ saturated (P l)) where
-  pub left-size : (ch ≡ 2 → ⊥) → x ≡ paddedSize ch l r
-  unfolding paddedSize
+  pub left-size : (ch ≡ 2 → ⊥) → x ≡ dataSize ch l r
+  unfolding dataSize
   left-size h = rw (ne-eqb ch 2 h) (is ∙ aligned l (omega arith))
 
-  pub both-size : (y : ℕ) → ch ≡ 2 → r ≤ monoLimit → y ≡ saturated (P r) → x + y ≡ paddedSize ch l r
-  unfolding paddedSize
+  pub both-size : (y : ℕ) → ch ≡ 2 → r ≤ monoLimit → y ≡ saturated (P r) → x + y ≡ dataSize ch l r
+  unfolding dataSize
   both-size y h s e = rw (eq-eqb ch 2 h, is, e, aligned l (omega arith), aligned r (omega arith))
 
 pub aligned-small : (l x : ℕ) → l ≤ monoLimit → x ≡ saturated (P l) → x ≤ monoLimit
 unfolding P
 aligned-small l x h e = let p = aligned l (omega arith) in omega arith
 
-pub size-small : (ch l r x : ℕ) → l ≤ monoLimit → (ch ≡ 2 → r ≤ monoLimit) → x ≡ paddedSize ch l r → x ≤ lengthLimit
-unfolding paddedSize P
+pub size-small : (ch l r x : ℕ) → l ≤ monoLimit → (ch ≡ 2 → r ≤ monoLimit) → x ≡ dataSize ch l r → x ≤ lengthLimit
+unfolding dataSize P
 size-small ch l r x h k e =
     by-cases (eqb ch 2)
     (λ q. let b = k (eqb-true ch 2 q) in let f : x ≡ P l + P r = e ∙ rw q in omega arith)
     (λ q. let f : x ≡ P l = e ∙ rw q in omega arith)
 
-pub block-small : (k d x : ℕ) → k ≤ cueLimit → d ≤ lengthLimit → x ≡ dataAfter k + d → x ≤ 131104 + 8 * cueLimit
+pub block-small : (k d x : ℕ) → k ≤ cueLimit → d ≤ lengthLimit → x ≡ dataAfter k + d → x ≤ blockHeaderSize + lengthLimit + 8 * cueLimit
 unfolding P
 block-small k d x h g e = omega arith
 
@@ -155,14 +153,8 @@ passing n last own blocks f g ch l r lb rb is z =
 
 -- ---- The loop block after a block of the stream
 
-module _ (s : Stream) (held asked : Bool) (end : ℕ) (last : Bool) where
-  pub loop-is : (due : Bool) → due ≡ loopsTo (s .mode) held asked end last → (l : LoopAt) → l ≡ orAt (s .loopat) (pick due (At (s .offset)) Nowhere) → l ≡ loopFrom s held asked end last
-  unfolding loopFrom
-  loop-is due e l f = f ∙ rw e
-
-  pub loop-near : Sound s → (l : LoopAt) → l ≡ loopFrom s held asked end last → (n : ℕ) → l ≡ At n → n ≤ s .offset
-  unfolding loopFrom
-  loop-near g l is n q = looped-after (s .loopat) (loopsTo (s .mode) held asked end last) (s .offset) (s .offset) (g .looped) (omega arith) n (sym is ∙ q)
+pub loop-near : (u : Setup) (s : Stream) → Sound u s → (here : Bool) (l : LoopAt) → l ≡ loopFrom (s .loopat) (s .offset) here → (n : ℕ) → l ≡ At n → n ≤ s .offset
+loop-near u s g here l is n q = looped-after (s .loopat) here (s .offset) (s .offset) (g .looped) (omega arith) n (sym is ∙ q)
 
 -- ---- The plan
 
@@ -174,29 +166,30 @@ fits-room slot offset size lent m is z =
     let g = none-due 14 _ _ (lit< tt) (h .1) in
     (ltb-false slot (offset + size) (h .0), ltb-false lent size (g .0))
 
-module _ (s : Stream) (t : Taken) (held : Bool) (end ch : ℕ) (l r : ChannelBlock) (lb rb : ℕ) (last : Bool) (lent : ℕ) where
-  refused-plan : (n : ℕ) → n ≡ planDue s (t .points) ch l r lb rb lent → (n ≡ 0 → ⊥) → noPlan n ≡ planOf s t held end ch l r lb rb last lent
+module _ (u : Setup) (s : Stream) (t : Taken) (held : Bool) (end ch : ℕ) (l r : ChannelBlock) (lb rb : ℕ) (last : Bool) (lent : ℕ) where
+  refused-plan : (n : ℕ) → n ≡ planDue u s (t .points) ch l r lb rb lent → (n ≡ 0 → ⊥) → noPlan n ≡ planOf u s t held end ch l r lb rb last lent
   unfolding planOf
-  refused-plan n is h = rw (ne-eqb (planDue s (t .points) ch l r lb rb lent) 0 (λ z. h (is ∙ z)), ← is)
+  refused-plan n is h = rw (ne-eqb (planDue u s (t .points) ch l r lb rb lent) 0 (λ z. h (is ∙ z)), ← is)
 
-  module _ (n : ℕ) (is : n ≡ firstDue (earlyDue (s .last) (s .channels) (s .blocks) (s .left) (s .right) ch l r lb rb)) where
-    pub plan-early : (n ≡ 0 → ⊥) → (p : Plan) → p ≡ noPlan n → p ≡ planOf s t held end ch l r lb rb last lent
+  module _ (n : ℕ) (is : n ≡ firstDue (earlyDue (s .last) (u .channels) (s .blocks) (s .left) (s .right) ch l r lb rb)) where
+    pub plan-early : (n ≡ 0 → ⊥) → (p : Plan) → p ≡ noPlan n → p ≡ planOf u s t held end ch l r lb rb last lent
     unfolding planDue
     plan-early h p e = e ∙ refused-plan n (group-yes n _ _ is h) h
 
-    module _ (none : n ≡ 0) (m size : ℕ) (sized : size ≡ sizeFor (t .points) ch lb rb) (room : m ≡ firstDue (roomDue (s .slot) (s .offset) size lent)) where
-      room-is : m ≡ planDue s (t .points) ch l r lb rb lent
+    module _ (none : n ≡ 0) (m size : ℕ) (sized : size ≡ dataAfter (t .points) + dataSize ch lb rb) (room : m ≡ firstDue (roomDue (u .slot) (s .offset) size lent)) where
+      room-is : m ≡ planDue u s (t .points) ch l r lb rb lent
       unfolding planDue
-      room-is = group-no n m _ _ (early-numbered _ _ _ _ _ _ _ _ _ _) is none (room ∙ ap (λ (k : ℕ). firstDue (roomDue (s .slot) (s .offset) k lent)) sized)
+      room-is = group-no n m _ _ (early-numbered _ _ _ _ _ _ _ _ _ _) is none (room ∙ ap (λ (k : ℕ). firstDue (roomDue (u .slot) (s .offset) k lent)) sized)
 
-      pub plan-room : (m ≡ 0 → ⊥) → (p : Plan) → p ≡ noPlan m → p ≡ planOf s t held end ch l r lb rb last lent
+      pub plan-room : (m ≡ 0 → ⊥) → (p : Plan) → p ≡ noPlan m → p ≡ planOf u s t held end ch l r lb rb last lent
       plan-room h p e = e ∙ refused-plan m room-is h
 
-      module _ (fits : m ≡ 0) (loopat : LoopAt) (looped : loopat ≡ loopFrom s held (t .asked) end last) where
-        pub plan-made : (bytes start next : ℕ) (other : FrameContext) → bytes ≡ paddedSize ch lb rb → start ≡ dataAfter (t .points)
-            → next ≡ pick last (atOrNone loopat) (s .offset + size) → other ≡ secondContext ch r
+      module _ (fits : m ≡ 0) (here : Bool) (loops : here ≡ loopsHere (u .mode) held (t .asked) end last)
+          (loopat : LoopAt) (looped : loopat ≡ loopFrom (s .loopat) (s .offset) here) where
+        pub plan-made : (bytes start next : ℕ) (other : FrameContext) → bytes ≡ dataSize ch lb rb → start ≡ dataAfter (t .points)
+            → next ≡ nextOffset last loopat (s .offset + size) → other ≡ secondContext ch r
             → record { due = 0; header = record { size = bytes; «end_address» = l .length - 1; «next_offset» = next; left = l .context; right = other; cues = t .points }; start = start; size = size; loopat = loopat }
-            ≡ planOf s t held end ch l r lb rb last lent
+            ≡ planOf u s t held end ch l r lb rb last lent
         unfolding planOf madePlan headerIn
         plan-made bytes start next other ed es en eo =
-            rw (eq-eqb (planDue s (t .points) ch l r lb rb lent) 0 (sym room-is ∙ fits), ed, es, en, eo, looped, sized)
+            rw (eq-eqb (planDue u s (t .points) ch l r lb rb lent) 0 (sym room-is ∙ fits), ed, es, en, eo, looped, loops, sized)

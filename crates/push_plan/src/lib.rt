@@ -3,7 +3,6 @@ use layout::BlockHeader;
 use layout::FrameContext;
 use layout::limits::BLOCK_HEADER_SIZE;
 use layout::limits::CUE_POINT_SIZE;
-use layout::limits::LENGTH_LIMIT;
 use push_order::early_due;
 use push_order::room_due;
 use sizes::adpcm_samples;
@@ -12,34 +11,18 @@ use taking::Taken;
 use writer::ChannelBlock;
 use writer::LoopAt;
 use writer::Looping;
+use writer::Setup;
+use writer::Stream;
 ghost use mathlib.Core.Path.{_≡_};
 ghost use Prim.Native.Nat.{ℕ, _+_, _*_, _<_, _≤_, _^_};
-ghost use Rattle.layout.specs.Choice.{pick};
-ghost use Rattle.layout.specs.Records.{P, dataAfter};
-ghost use Rattle.writer.specs.Calls.{orAt, atOrNone};
-ghost use Rattle.push_plan.specs.PushPlan.{endFrom, loopsTo, paddedSize, secondContext, Sound, noPlan, planOf};
+ghost use Rattle.layout.specs.Sizes.{saturated};
+ghost use Rattle.layout.specs.Records.{adpcmSamples, dataAfter};
+ghost use Rattle.writer.specs.Loading.{dataSize, secondContext};
+ghost use Rattle.writer.specs.Push.{loopsHere, loopFrom, nextOffset};
+ghost use Rattle.push_plan.specs.PushPlan.{Sound, noPlan, planOf};
 ghost use Rattle.layout.specs.Refusals.{cueLimit, monoLimit};
 
 const END_BLOCK_OFFSET: u32 = 4294967295;
-
-// The stream so far: the writer's record without its table of cues, which most pushes need not look into.
-pub struct Stream {
-    pub slot: usize,
-    pub channels: usize,
-    pub mode: Looping,
-    pub count: usize,
-    pub next: usize,
-    pub id: u32,
-    pub base: u64,
-    pub offset: usize,
-    pub loopat: LoopAt,
-    pub blocks: usize,
-    pub sum: u64,
-    pub left: ChannelBlock,
-    pub right: ChannelBlock,
-    pub last: bool,
-    pub finished: bool,
-}
 
 // The number due, 0 where none is; then the block's header, where its data starts, its size, and the loop block's offset after it.
 pub struct Plan {
@@ -50,21 +33,22 @@ pub struct Plan {
     pub loopat: LoopAt,
 }
 
-// The sample that a block of this length ends before; a length that is refused adds nothing.
+// The sample that a block of this length ends before, or u64::MAX where that is larger.
 pub fn block_end(base: u64, length: usize) -> u64
-    requires { ⌜ base < 2 ^ 32 ⌝ }
-    ensures { λ r. ⌜ r ≡ endFrom base length ⌝ }
+    ensures { λ r. ⌜ r ≡ saturated (base + adpcmSamples length) ⌝ }
 {
-    if length > LENGTH_LIMIT {
-        return base;
+    let samples = adpcm_samples(length) as u64;
+    if samples <= u64::MAX - base {
+        base + samples
+    } else {
+        u64::MAX
     }
-    base + adpcm_samples(length) as u64
 }
 
 // The sum of padded data.
 fn data_size(channels: usize, left: usize, right: usize) -> usize
     requires { ⌜ (left ≤ monoLimit) × (channels ≡ 2 → right ≤ monoLimit) ⌝ }
-    ensures { λ r. ⌜ r ≡ paddedSize channels left right ⌝ }
+    ensures { λ r. ⌜ r ≡ dataSize channels left right ⌝ }
 {
     let size = align(left);
     if channels == 2 {
@@ -97,7 +81,7 @@ fn second_context(channels: usize, right: ChannelBlock) -> FrameContext
 
 // Whether a block that ends before this sample would be the loop block, by whether the table has a Loop and whether the block takes one.
 fn loop_due(mode: Looping, held: bool, asked: bool, end: u64, last: bool) -> bool
-    ensures { λ r. ⌜ r ≡ loopsTo mode held asked end last ⌝ }
+    ensures { λ r. ⌜ r ≡ loopsHere mode held asked end last ⌝ }
 {
     match mode {
         Looping::Disabled => false,
@@ -116,7 +100,7 @@ fn loop_due(mode: Looping, held: bool, asked: bool, end: u64, last: bool) -> boo
 
 // The loop block's offset after a block at this one: the first one stays.
 fn loop_after(loopat: LoopAt, offset: usize, due: bool) -> LoopAt
-    ensures { λ r. ⌜ r ≡ orAt loopat (pick due (LoopAt.At offset) LoopAt.Nowhere) ⌝ }
+    ensures { λ r. ⌜ r ≡ loopFrom loopat offset due ⌝ }
 {
     match loopat {
         LoopAt::At(_) => loopat,
@@ -134,7 +118,7 @@ fn loop_after(loopat: LoopAt, offset: usize, due: bool) -> LoopAt
 fn next_offset(last: bool, loopat: LoopAt, end: usize) -> u32
     requires { ⌜ end < 2 ^ 32 ⌝ }
     requires { ⌜ ((n : ℕ) → loopat ≡ LoopAt.At n → n < 2 ^ 32) ⌝ }
-    ensures { λ r. ⌜ r ≡ pick last (atOrNone loopat) end ⌝ }
+    ensures { λ r. ⌜ r ≡ nextOffset last loopat end ⌝ }
 {
     if last {
         match loopat {
@@ -172,6 +156,7 @@ fn no_plan(due: u32) -> Plan
 
 // The plan of a push of so many bytes: the block takes these cues, ends before this sample and goes by a lent buffer of this length.
 pub fn plan_push(
+    setup: Setup,
     s: Stream,
     taken: Taken,
     held: bool,
@@ -184,14 +169,14 @@ pub fn plan_push(
     last: bool,
     lent: usize,
 ) -> Plan
-    requires { ⌜ Sound s × (taken .points ≤ cueLimit) ⌝ }
-    ensures { λ p. ⌜ p ≡ planOf s taken held end channels left right «left_bytes» «right_bytes» last lent ⌝ }
+    requires { ⌜ Sound setup s × (taken .points ≤ cueLimit) ⌝ }
+    ensures { λ p. ⌜ p ≡ planOf setup s taken held end channels left right «left_bytes» «right_bytes» last lent ⌝ }
 {
     let first = s.left;
     let second = s.right;
     let early = early_due(
         s.last,
-        s.channels,
+        setup.channels,
         s.blocks,
         first,
         second,
@@ -207,11 +192,11 @@ pub fn plan_push(
     let data = data_size(channels, left_bytes, right_bytes);
     let start = data_start(taken.points);
     let size = start + data;
-    let room = room_due(s.slot, s.offset, size, lent);
+    let room = room_due(setup.slot, s.offset, size, lent);
     if room != 0 {
         return no_plan(room);
     }
-    let mode = s.mode;
+    let mode = setup.mode;
     let former = s.loopat;
     let due = loop_due(mode, held, taken.asked, end, last);
     let loopat = loop_after(former, s.offset, due);

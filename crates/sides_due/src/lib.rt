@@ -2,8 +2,7 @@
 use sizes::adpcm_bytes;
 ghost use mathlib.Core.Path.{_≡_};
 ghost use Rattle.layout.specs.Refusals.{firstDue};
-ghost use Rattle.writer.specs.Loading.{sameZ};
-ghost use Rattle.push_due.specs.PushDue.{dataDue, coefficientsDue};
+ghost use Rattle.writer.specs.Loading.{sameZ, dataDue, coefficientsDue};
 
 // 11
 pub fn data_due(

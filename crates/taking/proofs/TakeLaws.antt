@@ -14,8 +14,8 @@ use Rattle.layout.specs.Choice.{_or_}
 use Rattle.layout.specs.Lists.{any, filter}
 use Rattle.layout.proofs.Cases.{by-cases}
 use Rattle.writer.specs.Loading.{loops, points, anyLoop}
-use Rattle.writer.specs.Calls.{below}
-use Rattle.taking.specs.Taking.{tallied, takesTo, takenTo, Taking}
+use Rattle.writer.specs.Push.{below, countTaken, cuesTaken}
+use Rattle.taking.specs.Taking.{tallied, Taking}
 use Rattle.writer.proofs.CueLaws.{points-few}
 use Rattle.writer.specs.declared.Cue.{Cue}
 use Rattle.taking.specs.declared.Taken.{Taken}
@@ -145,53 +145,53 @@ below-few lim [] = omega arith
 below-few lim (c ∷ cs) = by-cases (ltb (c .start) lim) (λ q. rw q (omega (arith, below-few lim cs))) (λ q. rw q (omega arith))
 
 module _ (t : List Cue) (from count end : ℕ) (last : Bool) (placed : from ≤ count) where
-  taken-are : (r : Taken) (to k : ℕ) → takesTo t from count end last ≡ k → to ≡ from + k → to ≤ count → r ≡ tallied to (slice from to t)
-      → r ≡ tallied (from + takesTo t from count end last) (takenTo t from count end last)
-  unfolding takenTo
+  taken-are : (r : Taken) (to k : ℕ) → countTaken t from count end last ≡ k → to ≡ from + k → to ≤ count → r ≡ tallied to (slice from to t)
+      → r ≡ tallied (from + countTaken t from count end last) (cuesTaken t from count end last)
+  unfolding cuesTaken
   taken-are r to k ek et le e =
-      let p : to ≡ from + takesTo t from count end last = et ∙ ap (λ (m : ℕ). from + m) (sym ek) in
-      let q : slice from to t ≡ takenTo t from count end last =
+      let p : to ≡ from + countTaken t from count end last = et ∙ ap (λ (m : ℕ). from + m) (sym ek) in
+      let q : slice from to t ≡ cuesTaken t from count end last =
       ap (λ (m : ℕ). slice from m t) et
       ∙ sym (first-part k from count t (omega arith))
       ∙ ap (λ (m : ℕ). take m (slice from count t)) (sym ek) in
       e ∙ (λ i. tallied (p i) (q i))
 
-  pub none-taken : from ≡ count → record { to = from; points = 0; asked = false } ≡ tallied (from + takesTo t from count end last) (takenTo t from count end last)
-  unfolding tallied takesTo below points filter any
+  pub none-taken : from ≡ count → record { to = from; points = 0; asked = false } ≡ tallied (from + countTaken t from count end last) (cuesTaken t from count end last)
+  unfolding tallied countTaken below points filter any
   none-taken e =
       let z : below end (slice from count t) ≡ 0 = rw (← e, slice-empty) in
-      let k : takesTo t from count end last ≡ 0 = by-cases last (λ q. rw q (omega arith)) (λ q. rw q z) in
+      let k : countTaken t from count end last ≡ 0 = by-cases last (λ q. rw q (omega arith)) (λ q. rw q z) in
       taken-are _ from 0 k (omega arith) (omega arith) (rw slice-empty)
 
   module _ (r : Taken) where
-    pub all-taken : last ≡ true → r ≡ tallied count (slice from count t) → r ≡ tallied (from + takesTo t from count end last) (takenTo t from count end last)
-    unfolding takesTo
+    pub all-taken : last ≡ true → r ≡ tallied count (slice from count t) → r ≡ tallied (from + countTaken t from count end last) (cuesTaken t from count end last)
+    unfolding countTaken
     all-taken l e = taken-are r count (count - from) (rw l) (omega arith) (omega arith) e
 
     pub some-taken : (to : ℕ) → last ≡ false → to ≡ from + below end (slice from count t) → to ≤ count
-        → r ≡ tallied to (slice from to t) → r ≡ tallied (from + takesTo t from count end last) (takenTo t from count end last)
-    unfolding takesTo
+        → r ≡ tallied to (slice from to t) → r ≡ tallied (from + countTaken t from count end last) (cuesTaken t from count end last)
+    unfolding countTaken
     some-taken to l b le e = taken-are r to _ (rw l) b le e
 
   -- What a block takes is a part of the table.
   module _ (within : count ≤ length t) where
-    takes-few : from + takesTo t from count end last ≤ count
-    unfolding takesTo
+    takes-few : from + countTaken t from count end last ≤ count
+    unfolding countTaken
     takes-few =
         let b = below-few end (slice from count t) in
         let n = length-slice from count t within in
         by-cases last (λ q. rw q (omega arith)) (λ q. rw q (omega arith))
 
-    pub taken-slice : takenTo t from count end last ≡ slice from (from + takesTo t from count end last) t
-    unfolding takenTo
-    taken-slice = first-part (takesTo t from count end last) from count t takes-few
+    pub taken-slice : cuesTaken t from count end last ≡ slice from (from + countTaken t from count end last) t
+    unfolding cuesTaken
+    taken-slice = first-part (countTaken t from count end last) from count t takes-few
 
-    pub taken-count : length (takenTo t from count end last) ≡ takesTo t from count end last
+    pub taken-count : length (cuesTaken t from count end last) ≡ countTaken t from count end last
     taken-count =
-        ap length taken-slice ∙ length-slice from (from + takesTo t from count end last) t (omega (arith, takes-few)) ∙ omega arith
+        ap length taken-slice ∙ length-slice from (from + countTaken t from count end last) t (omega (arith, takes-few)) ∙ omega arith
 
-    module _ (r : Taken) (is : r ≡ tallied (from + takesTo t from count end last) (takenTo t from count end last)) where
-      ends : r .to ≡ from + takesTo t from count end last
+    module _ (r : Taken) (is : r ≡ tallied (from + countTaken t from count end last) (cuesTaken t from count end last)) where
+      ends : r .to ≡ from + countTaken t from count end last
       unfolding tallied
       ends = ap (λ (x : Taken). x .to) is
 

@@ -1,30 +1,19 @@
 -- The cues that a block takes of the table, and their bytes, as push's code works them out.
-use Prim.Native.Nat.{ℕ, _+_, _-_, _≤_}
+use Prim.Native.Nat.{ℕ, _+_, _≤_}
 use mathlib.Core.Path.{_≡_}
-use mathlib.Core.Bool.{Bool}
 use mathlib.Core.List.{List, _++_}
-use lib.ListN.{take}
 use lib.Seq.{slice}
 use lib.IntN.{pos}
-use Rattle.layout.specs.Choice.{pick}
 use Rattle.layout.specs.Lists.{concat}
 use Rattle.layout.specs.Records.{cueBytes, fillers}
 use Rattle.layout.specs.declared.CuePoint.{CuePoint}
 use Rattle.writer.specs.Loading.{points, pointsOf, anyLoop}
-use Rattle.writer.specs.Calls.{below}
 use Rattle.writer.specs.declared.Cue.{Cue}
 use Rattle.taking.specs.declared.Taken.{Taken}
 
 -- The cues taken up to a place of the table: that place, how many are points and ranges, whether a Loop is among them.
 unfoldable pub tallied : (to : ℕ) → List Cue → Taken
 tallied to cs = record { to = to; points = points cs; asked = anyLoop cs }
-
--- Of the cues from one place to another, how many a block takes whose samples end before this one (takesOf), and these cues (takenOf).
-unfoldable pub takesTo : List Cue → (from count end : ℕ) (last : Bool) → ℕ
-takesTo t from n end last = pick last (n - from) (below end (slice from n t))
-
-unfoldable pub takenTo : List Cue → (from count end : ℕ) (last : Bool) → List Cue
-takenTo t from n end last = take (takesTo t from n end last) (slice from n t)
 
 -- A cue point at this sample index.
 abbrev pub cuePoint : (index id : ℕ) → CuePoint

@@ -12,8 +12,8 @@ ghost use lib.Seq.{slice};
 ghost use Rattle.layout.specs.Records.{P, cueBytes, cuePointSize};
 ghost use Rattle.layout.specs.Puts.{putAt};
 ghost use Rattle.writer.specs.Loading.{loops, anyLoop};
-ghost use Rattle.writer.specs.Calls.{below};
-ghost use Rattle.taking.specs.Taking.{tallied, takesTo, takenTo, cuePoint, pointBytes, filledBytes, Taking};
+ghost use Rattle.writer.specs.Push.{below, countTaken, cuesTaken};
+ghost use Rattle.taking.specs.Taking.{tallied, cuePoint, pointBytes, filledBytes, Taking};
 ghost use Rattle.layout.specs.Refusals.{cueLimit};
 
 // The cues of the table up to a place: where they end, how many of them are points and ranges, whether a Loop is among them.
@@ -72,7 +72,7 @@ fn tally(cues: [Cue; CUE_LIMIT], from: usize, to: usize) -> Taken
 // Of the cues from a place on those that a block takes whose samples end before this one; the last takes all that remain.
 pub fn take(cues: [Cue; CUE_LIMIT], from: usize, count: usize, end: u64, last: bool) -> Taken
     requires { ⌜ (from ≤ count) × (count ≤ cueLimit) ⌝ }
-    ensures { λ r. ⌜ r ≡ tallied (from + takesTo cues from count end last) (takenTo cues from count end last) ⌝ }
+    ensures { λ r. ⌜ r ≡ tallied (from + countTaken cues from count end last) (cuesTaken cues from count end last) ⌝ }
 {
     if last {
         return tally(cues, from, count);

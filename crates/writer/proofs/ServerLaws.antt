@@ -33,7 +33,7 @@ module _ (n ch : ℕ) (m : Looping) (lent : List ℕ) where
 module _ (w : HpsWriter) (p : Push) (lent : List ℕ) where
   pub push-place : handedOut (called (pushOf w p lent)) ≡ pushOf w p lent .places
   unfolding pushOf
-  push-place = one-place (pushRefusal (standingIn w) (takenOf w p) p (length lent)) _ lent _ 0 (write (w .offset) (pushBytes w p))
+  push-place = one-place (pushRefusal (standingIn w) (takenOf w p) p (length lent)) _ lent _ 0 (write (w .stream .offset) (pushBytes w p))
 
   pub push-writes : (q : Called) (l : List ℕ) → q ≡ called (pushOf w p lent) → l ≡ pushOf w p lent .lent
       → writesIn (handedOut q) l ≡ writes (pushOf w p lent)
@@ -43,7 +43,7 @@ module _ (w : HpsWriter) (p : Push) (lent : List ℕ) where
 module _ (w : HpsWriter) (lent : List ℕ) where
   finish-places : handedOutAll (finished (finishOf w lent)) ≡ finishOf w lent .places
   unfolding finishOf
-  finish-places = by-cases (eqb (finishRefusal (w .finished) (w .blocks) (w .last) (length lent)) 0) (λ t. rw t) (λ t. rw t)
+  finish-places = by-cases (eqb (finishRefusal (w .finished) (w .stream .blocks) (w .stream .last) (length lent)) 0) (λ t. rw t) (λ t. rw t)
 
   pub finish-writes : (q : Finished) (l : List ℕ) → q ≡ finished (finishOf w lent) → l ≡ finishOf w lent .lent
       → writesIn (handedOutAll q) l ≡ writes (finishOf w lent)
@@ -53,4 +53,4 @@ module _ (w : HpsWriter) (lent : List ℕ) where
 -- Cue hands out nothing.
 pub cue-writes : (w : HpsWriter) (c : Cue) → writes (cueOf w c) ≡ []
 unfolding writes writesIn cueOf
-cue-writes w c = by-cases (eqb (cueRefusal (w .blocks) (held w) c) 0) (λ q. rw q) (λ q. rw q)
+cue-writes w c = by-cases (eqb (cueRefusal (w .stream .blocks) (held w) c) 0) (λ q. rw q) (λ q. rw q)

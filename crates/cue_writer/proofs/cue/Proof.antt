@@ -40,10 +40,10 @@ put-in-requires : tie.Need-put-in-requires
 put-in-requires c κs =
     let d = c .before .before .before in
     let b = d .before .before .before in
-    (search (place-inside, needs), room-left (b .before .args .w .blocks) (b .is-bad .result) _ _ _ (d .cue-due .ensures) (c .before .before .if1 .left) (c .before .if2 .left))
+    (search (place-inside, needs), room-left (b .before .args .w .stream .blocks) (b .is-bad .result) _ _ _ (d .cue-due .ensures) (c .before .before .if1 .left) (c .before .if2 .left))
 
-add-t12 : tie.Need-add-t12
-add-t12 c = omega arith
+add-count : tie.Need-add-count
+add-count c = omega arith
 
 accepted-requires-2 : tie.Need-accepted-requires-2
 accepted-requires-2 c κs = search needs
@@ -70,6 +70,6 @@ cue-spec =
     returns-2
     place-of-requires
     put-in-requires
-    add-t12
+    add-count
     accepted-requires-2
     returns-3)

@@ -7,8 +7,8 @@ use Rattle.puts.proofs.PutLaws.{putAt-length}
 use Rattle.writer.specs.Calls.{called, beginOf}
 use Rattle.writer.specs.declared.Called.{Called}
 use Rattle.writer.specs.declared.Looping.{Looping}
-use Rattle.push_plan.specs.PushPlan.{streamOf}
-use Rattle.push_plan.specs.declared.Stream.{Stream}
+use Rattle.kept_sides.specs.Fields.{fieldsOf}
+use Rattle.kept_sides.specs.declared.Fields.{Fields}
 use Rattle.kept_writer.specs.KeptWriter.{modeOf, writerIn}
 use Rattle.kept_record.specs.KeptRecord.{recordBytes}
 use Rattle.kept_record.proofs.RecordLaws.{record-put}
@@ -19,7 +19,7 @@ use Rattle.kept_loading.proofs.begin_kept.Statement.{statement}
 use Rattle.kept_loading.proofs.begin_kept.Tie as tie
 use Rattle.kept_loading.proofs.begin_kept.Reads as reads
 use Rattle.kept_loading.proofs.begin_kept.Lts as lts
-use Rattle.block_writer.proofs.push.stream_of.Reads as stream-of-reads
+use Rattle.kept_writer.proofs.loader.fields_of.Reads as fields-of-reads
 use Rattle.kept_loading.proofs.refused.Reads as refused-reads
 use Rattle.kept_puts.proofs.put_numbers.Reads as put-numbers-reads
 use Rattle.kept_record.proofs.put_sides.Reads as put-sides-reads
@@ -73,8 +73,8 @@ refused-requires-3 c κs = search needs
 enum-told : tie.Need-enum-told
 enum-told c = search needs
 
-stream-of-requires : tie.Need-stream-of-requires
-stream-of-requires c κs = search needs
+fields-of-requires : tie.Need-fields-of-requires
+fields-of-requires c κs = search needs
 
 put-numbers-requires : tie.Need-put-numbers-requires
 put-numbers-requires c κs = omega (arith, c .before .before .before .before .before .before .before .before .before .before .before .before .before .before .if1 .left)
@@ -120,13 +120,13 @@ returns-4 c =
     let k = a .kept .now in
     let f = c .before .before .before .before .before .before .before .before .before .before in
     let room = b .before .before .before .before .if1 .left in
-    let is : f .stream-of .result ≡ streamOf (o .writer) = f .stream-of .ensures ∙ ap (λ (q : Called). streamOf (q .writer)) (told .0) in
+    let is : f .fields-of .result ≡ fieldsOf (o .writer) = f .fields-of .ensures ∙ ap (λ (q : Called). fieldsOf (q .writer)) (told .0) in
     let sixteen = begin-sixteen k (a .slot) (a .channels) (modeOf (a .mode)) (a .lent .now) 0 in
-    let put = record-put k _ (f .stream-of .result) (c .before .before .before .before .before .before .put-numbers .ensures) (omega arith)
-    (ap (λ (m : Stream). length (m .left .coefficients)) is ∙ sixteen .0)
-    (ap (λ (m : Stream). length (m .right .coefficients)) is ∙ sixteen .1)
+    let put = record-put k _ (f .fields-of .result) (c .before .before .before .before .before .before .put-numbers .ensures) (omega arith)
+    (ap (λ (m : Fields). length (m .left .coefficients)) is ∙ sixteen .0)
+    (ap (λ (m : Fields). length (m .right .coefficients)) is ∙ sixteen .1)
     (c .before .before .put-sides .ensures)
-    ∙ ap (λ (m : Stream). putAt k 0 (recordBytes m)) is in
+    ∙ ap (λ (m : Fields). putAt k 0 (recordBytes m)) is in
     rw (le-ltb (length (a .kept .now)) loaderSize room, le-ltb 2 (a .mode) (b .before .before .before .if2 .left)) (
       begin-accepted (a .slot) (a .channels) (modeOf (a .mode)) (a .lent .now) _ (told .0) _ r,
       (
@@ -152,7 +152,7 @@ begin-kept-spec =
     enum-known-reply
     refused-requires-3
     enum-told
-    stream-of-requires
+    fields-of-requires
     put-numbers-requires
     put-sides-requires
     same-length

@@ -32,7 +32,7 @@ returns c =
     let s = c .before .before .before .before .before .before in
     let k = s .args .kept .now in
     let e = c .refused .ensures in
-    let h : streamIn k .slot ≡ 0 = sym (ap (λ (m : HpsWriter). m .slot) (c .before .before .before .writer-in .ensures)) ∙ c .before .if1 .taken in
+    let h : streamIn k .slot ≡ 0 = sym (ap (λ (m : HpsWriter). m .setup .slot) (c .before .before .before .writer-in .ensures)) ∙ c .before .if1 .taken in
     (no-record k (cueOf (writerIn k) (s .args .c)) h _ e, (leaves _ _ _ 254 e refl, leaves _ _ _ 254 e refl))
 
 cue-requires : tie.Need-cue-requires
@@ -52,7 +52,7 @@ put-table-requires c κs =
     let u = c .before .before .before .before .before in
     let e = u .before in
     let k = e .before .before .before .before .before .args .kept .now in
-    let some : streamIn k .slot ≡ 0 → ⊥ = λ z. e .if1 .left (ap (λ (m : HpsWriter). m .slot) (e .before .before .writer-in .ensures) ∙ z) in
+    let some : streamIn k .slot ≡ 0 → ⊥ = λ z. e .if1 .left (ap (λ (m : HpsWriter). m .setup .slot) (e .before .before .writer-in .ensures) ∙ z) in
     (search needs, holds k some .room)
 
 refused-requires-3 : tie.Need-refused-requires-3
@@ -67,7 +67,7 @@ returns-2 c =
     let e = u .before in
     let s = e .before .before .before .before .before in
     let k = s .args .kept .now in
-    let some : streamIn k .slot ≡ 0 → ⊥ = λ z. e .if1 .left (ap (λ (m : HpsWriter). m .slot) (e .before .before .writer-in .ensures) ∙ z) in
+    let some : streamIn k .slot ≡ 0 → ⊥ = λ z. e .if1 .left (ap (λ (m : HpsWriter). m .setup .slot) (e .before .before .writer-in .ensures) ∙ z) in
     let told : u .cue .result ≡ cued (cueOf (writerIn k) (s .args .c)) = u .cue .ensures .0 ∙ ap (λ (m : HpsWriter). cued (cueOf m (s .args .c))) (e .before .before .writer-in .ensures) in
     let r = c .before .before .reply .given .1 in
     let i = c .refused2 .ensures in
@@ -88,14 +88,14 @@ returns-3 c =
     let e = u .before in
     let s = e .before .before .before .before .before in
     let k = s .args .kept .now in
-    let some : streamIn k .slot ≡ 0 → ⊥ = λ z. e .if1 .left (ap (λ (m : HpsWriter). m .slot) (e .before .before .writer-in .ensures) ∙ z) in
+    let some : streamIn k .slot ≡ 0 → ⊥ = λ z. e .if1 .left (ap (λ (m : HpsWriter). m .setup .slot) (e .before .before .writer-in .ensures) ∙ z) in
     let told : u .cue .result ≡ cued (cueOf (writerIn k) (s .args .c)) = u .cue .ensures .0 ∙ ap (λ (m : HpsWriter). cued (cueOf m (s .args .c))) (e .before .before .writer-in .ensures) in
     let w = ap (λ (q : Cued). q .writer) told in
     let i = c .refused3 .ensures in
     rw (ne-eqb (streamIn k .slot) 0 some) (
       i ∙ cue-accepted (writerIn k) (s .args .c) (u .cue .result) told _ (d .enum-told .given .1),
       (
-        p .put-table .ensures .0 ∙ ap (λ (m : HpsWriter). tablePut k (m .cues) (m .count)) w ∙ gives _ _ _ 0 i refl,
+        p .put-table .ensures .0 ∙ ap (λ (m : HpsWriter). tablePut k (m .table .cues) (m .table .count)) w ∙ gives _ _ _ 0 i refl,
         cue-after k (s .args .c) (u .cue .result .writer) (p .put-table .last .0) some w (p .put-table .ensures .0) (p .put-table .ensures .1) ∙ gives _ _ _ 0 i refl,
       ),
     )

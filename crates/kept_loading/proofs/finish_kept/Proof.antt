@@ -31,7 +31,7 @@ returns c =
     let s = c .before .before .before .before .before .before .before in
     let k = s .args .kept .now in
     let e = c .refused .ensures in
-    let h : streamIn k .slot ≡ 0 = sym (ap (λ (m : HpsWriter). m .slot) (c .before .before .before .writer-in .ensures)) ∙ c .before .if1 .taken in
+    let h : streamIn k .slot ≡ 0 = sym (ap (λ (m : HpsWriter). m .setup .slot) (c .before .before .before .writer-in .ensures)) ∙ c .before .if1 .taken in
     rw (eq-eqb (streamIn k .slot) 0 h) (e, (leaves _ _ _ 254 e refl, (leaves _ _ _ 254 e refl, leaves _ _ _ 254 e refl)))
 
 finish-requires : tie.Need-finish-requires
@@ -61,7 +61,7 @@ returns-2 c =
     let e = u .before .before in
     let s = e .before .before .before .before .before .before in
     let k = s .args .kept .now in
-    let some : streamIn k .slot ≡ 0 → ⊥ = λ z. e .if1 .left (ap (λ (m : HpsWriter). m .slot) (e .before .before .writer-in .ensures) ∙ z) in
+    let some : streamIn k .slot ≡ 0 → ⊥ = λ z. e .if1 .left (ap (λ (m : HpsWriter). m .setup .slot) (e .before .before .writer-in .ensures) ∙ z) in
     let w = e .before .before .writer-in .ensures in
     let o = finishOf (writerIn k) (s .args .lent .now) in
     let q : u .finish .result ≡ finished o = u .finish .ensures .0 ∙ ap (λ (m : HpsWriter). finished (finishOf m (s .args .lent .now))) w in
@@ -89,7 +89,7 @@ returns-3 c =
     let e = u .before .before in
     let s = e .before .before .before .before .before .before in
     let k = s .args .kept .now in
-    let some : streamIn k .slot ≡ 0 → ⊥ = λ z. e .if1 .left (ap (λ (m : HpsWriter). m .slot) (e .before .before .writer-in .ensures) ∙ z) in
+    let some : streamIn k .slot ≡ 0 → ⊥ = λ z. e .if1 .left (ap (λ (m : HpsWriter). m .setup .slot) (e .before .before .writer-in .ensures) ∙ z) in
     let w = e .before .before .writer-in .ensures in
     let o = finishOf (writerIn k) (s .args .lent .now) in
     let q : u .finish .result ≡ finished o = u .finish .ensures .0 ∙ ap (λ (m : HpsWriter). finished (finishOf m (s .args .lent .now))) w in

@@ -1,15 +1,19 @@
-use Prim.Native.Nat.{_<_}
+use Prim.Native.Nat.{_+_, _<_}
 use mathlib.Core.Path.{_≡_, refl, ap, sym, _∙_}
 use mathlib.Core.Bool.{Bool}
 use native.Mathlib.Omega.{arith}
 use lib.ListN.{length}
 use lib.Seq.{slice}
 use borrow.Author.Tests.{ne-eqb}
-use Rattle.writer.specs.Loading.{Push, anyLoop}
+use Rattle.writer.specs.Loading.{Push, anyLoop, pushArgs}
 use Rattle.writer.specs.Calls.{pushOf}
-use Rattle.push_due.specs.PushDue.{pushArgs}
-use Rattle.push_plan.specs.declared.Stream.{Stream}
-use Rattle.push_plan.specs.PushPlan.{endFrom, loopFrom, planOf, advanced}
+use Rattle.kept_sides.specs.Fields.{setupOf, streamOf, withStream}
+use Rattle.kept_sides.specs.declared.Fields.{Fields}
+use Rattle.writer.specs.declared.Stream.{Stream}
+use Rattle.writer.specs.Push.{loopsHere, loopFrom, advanced}
+use Rattle.layout.specs.Sizes.{saturated}
+use Rattle.layout.specs.Records.{adpcmSamples}
+use Rattle.push_plan.specs.PushPlan.{planOf}
 use Rattle.layout.specs.Puts.{putAt}
 use Rattle.taking.specs.Taking.{filledBytes}
 use Rattle.kept_sides.specs.KeptSides.{tableIn, cuesAt}
@@ -31,8 +35,11 @@ use Rattle.kept_record.proofs.put_pushed.Reads as put-pushed-reads
 use Rattle.kept_loading.proofs.refused.Reads as refused-reads
 use Rattle.kept_writer.proofs.loader.held_kept.Reads as held-kept-reads
 use Rattle.kept_writer.proofs.loader.put_taken_kept.Reads as put-taken-kept-reads
+use Rattle.kept_writer.proofs.loader.setup_of.Reads as setup-of-reads
 use Rattle.kept_writer.proofs.loader.stream_in.Reads as stream-in-reads
+use Rattle.kept_writer.proofs.loader.stream_of.Reads as stream-of-reads
 use Rattle.kept_writer.proofs.loader.take_kept.Reads as take-kept-reads
+use Rattle.kept_writer.proofs.loader.with_stream.Reads as with-stream-reads
 use Rattle.push_advance.proofs.advance.Reads as advance-reads
 use Rattle.push_plan.proofs.block_end.Reads as block-end-reads
 use Rattle.push_plan.proofs.plan_push.Reads as plan-push-reads
@@ -51,20 +58,34 @@ pushed s = pushArgs (s .args .channels) (s .args .left) (s .args .right) (s .arg
 stream : (c : tie.Else1) → c .before .before .stream-in .result ≡ streamIn (start c .args .kept .now)
 stream c = c .before .before .stream-in .ensures
 
-ends : (c : tie.After-block-end) → c .block-end .result ≡ endFrom (streamIn (start (c .before) .args .kept .now) .base) (start (c .before) .args .left .length)
-ends c = c .block-end .ensures ∙ ap (λ (m : Stream). endFrom (m .base) (start (c .before) .args .left .length)) (stream (c .before))
+-- what begin was given, and the stream
+parts : (c : tie.After-stream-of) → let m = streamIn (start (c .before .before) .args .kept .now) in
+    (c .before .setup-of .result ≡ setupOf m) × (c .stream-of .result ≡ streamOf m)
+parts c = (
+  c .before .setup-of .ensures ∙ ap (λ (m : Fields). setupOf m) (stream (c .before .before)),
+  c .stream-of .ensures ∙ ap (λ (m : Fields). streamOf m) (stream (c .before .before)),
+)
 
-takes : (c : tie.After-take-kept) → let s = start (c .before .before .before) in
+abbrev ended : tie.After-block-end → tie.Else1
+ended c = c .before .before .before
+
+ends : (c : tie.After-block-end) → c .block-end .result ≡ saturated (streamIn (start (ended c) .args .kept .now) .base + adpcmSamples (start (ended c) .args .left .length))
+ends c = c .block-end .ensures ∙ ap (λ (m : Fields). saturated (m .base + adpcmSamples (start (ended c) .args .left .length))) (stream (ended c))
+
+takes : (c : tie.After-take-kept) → let s = start (ended (c .before .before)) in
     c .take-kept .result ≡ takenIn (s .args .kept .now) (streamIn (s .args .kept .now) .next) (streamIn (s .args .kept .now) .count) (c .before .before .block-end .result) (s .args .last)
 takes c =
-    let s = start (c .before .before .before) in
-    c .take-kept .ensures ∙ ap (λ (m : Stream). takenIn (s .args .kept .now) (m .next) (m .count) (c .before .before .block-end .result) (s .args .last)) (stream (c .before .before .before))
+    let s = start (ended (c .before .before)) in
+    c .take-kept .ensures ∙ ap (λ (m : Fields). takenIn (s .args .kept .now) (m .next) (m .count) (c .before .before .block-end .result) (s .args .last)) (stream (ended (c .before .before)))
 
-worked : (p : tie.After-plan-push) → let s = start (p .before .before .before .before .before .before) in
+abbrev planned : tie.After-plan-push → tie.Else1
+planned p = ended (p .before .before .before .before .before)
+
+worked : (p : tie.After-plan-push) → let s = start (planned p) in
     Worked (writerIn (s .args .kept .now)) (s .args .channels) (s .args .left) (s .args .right) (s .args .left-data .now) (s .args .right-data .now) (s .args .last) (s .args .lent .now)
     (p .before .before .before .before .before .block-end .result) (p .before .before .before .take-kept .result) (p .before .held-kept .result) (p .plan-push .result)
 worked p =
-    let e = p .before .before .before .before .before .before in
+    let e = planned p in
     let s = start e in
     let k = s .args .kept .now in
     record {
@@ -72,17 +93,22 @@ worked p =
       ends = ends (p .before .before .before .before .before);
       takes = takes (p .before .before .before);
       loops =
-          ap (λ (b : Bool). loopFrom (streamIn k) b (p .before .before .before .take-kept .result .asked) (p .before .before .before .before .before .block-end .result) (s .args .last))
-          (p .before .held-kept .ensures ∙ ap (λ (m : Stream). heldIn (m .mode) (m .loopat) (anyLoop (slice 0 (m .count) (tableIn k cuesAt (m .count))))) (stream e))
-          ∙ loop-same (streamIn k) _ _ _ _;
+          ap
+          (λ (b : Bool). loopFrom (streamIn k .loopat) (streamIn k .offset) (loopsHere (streamIn k .mode) b (p .before .before .before .take-kept .result .asked) (p .before .before .before .before .before .block-end .result) (s .args .last)))
+          (p .before .held-kept .ensures ∙ ap (λ (m : Fields). heldIn (m .mode) (m .loopat) (anyLoop (slice 0 (m .count) (tableIn k cuesAt (m .count))))) (stream e))
+          ∙ loop-same (streamIn k .mode) (streamIn k .loopat) _ _ _ _ _;
       plans =
           p .plan-push .ensures
-          ∙ ap (λ (m : Stream). planOf m (p .before .before .before .take-kept .result) (p .before .held-kept .result) (p .before .before .before .before .before .block-end .result) (s .args .channels) (s .args .left) (s .args .right) (length (s .args .left-data .now)) (length (s .args .right-data .now)) (s .args .last) (length (s .args .lent .now))) (stream e);
+          ∙ (let t = p .before .before .before .take-kept .result in
+          let held = p .before .held-kept .result in
+          let end = p .before .before .before .before .before .block-end .result in
+          let is = parts (p .before .before .before .before .before .before) in
+          λ i. planOf (is .0 i) (is .1 i) t held end (s .args .channels) (s .args .left) (s .args .right) (length (s .args .left-data .now)) (length (s .args .right-data .now)) (s .args .last) (length (s .args .lent .now)));
     }
 
 -- the bytes hold a record
 some : (c : tie.Else1) → streamIn (start c .args .kept .now) .slot ≡ 0 → ⊥
-some c z = c .if1 .left (ap (λ (m : Stream). m .slot) (stream c) ∙ z)
+some c z = c .if1 .left (ap (λ (m : Fields). m .slot) (stream c) ∙ z)
 
 channels : (c : tie.Else1) → c .before .before .stream-in .result .channels < 18446744073709551616
 channels c = search needs
@@ -129,24 +155,31 @@ returns : tie.Need-returns
 returns c =
     let s = c .before .before .before .before .before .before .before .before .before in
     let k = s .args .kept .now in
-    let h : streamIn k .slot ≡ 0 = sym (ap (λ (m : Stream). m .slot) (c .before .before .before .stream-in .ensures)) ∙ c .before .if1 .taken in
+    let h : streamIn k .slot ≡ 0 = sym (ap (λ (m : Fields). m .slot) (c .before .before .before .stream-in .ensures)) ∙ c .before .if1 .taken in
     let e = c .refused .ensures in
     (no-record k (pushOf (writerIn k) (pushed s) (s .args .lent .now)) h _ e, leaves _ _ _ 254 e refl, leaves _ _ _ 254 e refl, leaves _ _ _ 254 e refl)
 
+setup-of-requires : tie.Need-setup-of-requires
+setup-of-requires c κs = search needs
+
+stream-of-requires : tie.Need-stream-of-requires
+stream-of-requires c κs = search needs
+
 block-end-requires : tie.Need-block-end-requires
-block-end-requires c κs = let g = kept-good (start c .args .kept .now) in rw (stream c) (omega (arith, g .base, g .many))
+block-end-requires c κs = search needs
 
 take-kept-requires : tie.Need-take-kept-requires
-take-kept-requires c κs = let g = kept-good (start (c .before .before) .args .kept .now) in rw (stream (c .before .before)) (g .placed, g .few)
+take-kept-requires c κs = let e = ended (c .before) in let g = kept-good (start e .args .kept .now) in rw (stream e) (g .placed, g .few)
 
 held-kept-requires : tie.Need-held-kept-requires
-held-kept-requires c κs = let e = c .before .before .before .before in rw (stream e) (kept-good (start e .args .kept .now) .few)
+held-kept-requires c κs = let e = ended (c .before .before .before) in rw (stream e) (kept-good (start e .args .kept .now) .few)
 
 plan-push-requires : tie.Need-plan-push-requires
 plan-push-requires c κs =
-    let e = c .before .before .before .before .before in
+    let e = ended (c .before .before .before .before) in
     let k = start e .args .kept .now in
-    (rw (stream e) (sound (writerIn k) (kept-good k)), few-points (writerIn k) (kept-good k) _ _ _ (takes (c .before .before)))
+    let is = parts (c .before .before .before .before .before) in
+    (rw (is .0, is .1) (sound (writerIn k) (kept-good k)), few-points (writerIn k) (kept-good k) _ _ _ (takes (c .before .before)))
 
 refused-requires-2 : tie.Need-refused-requires-2
 refused-requires-2 c κs = search needs
@@ -157,7 +190,7 @@ same-length-2 c = search needs
 returns-2 : tie.Need-returns-2
 returns-2 c =
     let p = c .before .before .before in
-    let e = p .before .before .before .before .before .before in
+    let e = planned p in
     let s = start e in
     let k = s .args .kept .now in
     let q = push-refused (writerIn k) (pushed s) (s .args .lent .now) _ (due-is (worked p)) (c .before .if2 .taken) _ refl in
@@ -172,7 +205,7 @@ put-taken-kept-requires : tie.Need-put-taken-kept-requires
 put-taken-kept-requires c κs =
     let d = c .before .before .before .before .before .before .before in
     let p = d .before .before in
-    let e = p .before .before .before .before .before .before in
+    let e = planned p in
     let k = start e .args .kept .now in
     let g = kept-good k in
     let w = worked p in (
@@ -190,13 +223,13 @@ advance-requires : tie.Need-advance-requires
 advance-requires c κs =
     let d = c .before .before .before .before .before .before .before .before .before .before .before .before .before .before in
     let p = d .before .before in
-    let e = p .before .before .before .before .before .before in
+    let e = planned p in
     let k = start e .args .kept .now in
     let g = kept-good k in
     let w = worked p in
     let h = passes w (d .if2 .left) in
     let few = few-points (writerIn k) g _ _ _ (w .takes) in
-    rw (stream e) (
+    rw (parts (p .before .before .before .before .before .before) .1) (
       omega (arith, g .named, g .placed, g .few, few),
       h .few,
       few,
@@ -204,38 +237,48 @@ advance-requires c κs =
       omega (arith, h .short, g .sums, g .many),
     )
 
+with-stream-requires : tie.Need-with-stream-requires
+with-stream-requires c κs = search needs
+
 put-pushed-requires : tie.Need-put-pushed-requires
 put-pushed-requires c κs =
-    let e = c .before .before .before .before .before .before .before .before .before .before .before .before .before .before .before .before .before .before .before .before .before .before .before .before in
+    let e = planned (c .before .before .before .before .before .before .before .before .before .before .before .before .before .before .before .before .before .before .before) in
     omega (arith, holds (start e .args .kept .now) (some e) .room)
 
 same-length-3 : tie.Need-same-length-3
 same-length-3 c = search needs
 
 same-length-4 : tie.Need-same-length-4
-same-length-4 c = search needs
+same-length-4 c =
+    let d = c .before .before .before .before .before .before .before in
+    let t = d .before .before .before .before in
+    let h = t .before .before .before .before .before in
+    search (d, t, h, needs)
 
 returns-3 : tie.Need-returns-3
 returns-3 c =
-    let d = c .before .before .before .before .before .before .before .before .before .before .before .before .before .before .before .before .before .before .before in
+    let d = c .before .before .before .before .before .before .before .before .before .before .before .before .before .before .before .before .before .before .before .before in
     let p = d .before .before in
-    let e = p .before .before .before .before .before .before in
+    let e = planned p in
     let s = start e in
     let k = s .args .kept .now in
     let w = worked p in
     let z = d .if2 .left in
-    let put = c .before .before .before .before .before .before .before .before .before .before .before .put-taken-kept .ensures
-    ∙ ap (λ (m : Stream). putAt (c .before .before .before .before .before .before .before .before .before .before .before .before .before .before .before .before .put-header .last .0) 32 (filledBytes (m .base) (m .id) (slice (m .next) (p .before .before .before .take-kept .result .to) (tableIn k cuesAt (m .count))))) (stream e) in
-    let b = bytes-are w z _ _ _ (c .before .before .before .before .before .before .before .before .before .before .before .before .before .before .before .before .put-header .ensures) put (c .before .before .before .before .before .before .before .put-data .ensures) in
+    let put = c .before .before .before .before .before .before .before .before .before .before .before .before .put-taken-kept .ensures
+    ∙ ap (λ (m : Fields). putAt (c .before .before .before .before .before .before .before .before .before .before .before .before .before .before .before .before .before .put-header .last .0) 32 (filledBytes (m .base) (m .id) (slice (m .next) (p .before .before .before .take-kept .result .to) (tableIn k cuesAt (m .count))))) (stream e) in
+    let b = bytes-are w z _ _ _ (c .before .before .before .before .before .before .before .before .before .before .before .before .before .before .before .before .before .put-header .ensures) put (c .before .before .before .before .before .before .before .before .put-data .ensures) in
     let q = push-accepted (writerIn k) (pushed s) (s .args .lent .now) _ (due-is w) z _ _ _ refl (sized w z) (room w z .1) b in
     let r = on-record k (pushOf (writerIn k) (pushed s) (s .args .lent .now)) (some e) _ (q .0) in
     let t = p .before .before .before .take-kept .result in
     let end = p .before .before .before .before .before .block-end .result in
-    let next : Stream → Stream = λ m. advanced m t end (p .plan-push .result .size) (p .plan-push .result .loopat) (s .args .left) (s .args .right) (s .args .last) in
-    let after = c .before .before .put-pushed .ensures ∙ ap (λ (m : Stream). putAt k 0 (pushedBytes m)) (c .before .before .before .before .advance .ensures ∙ ap next (stream e)) in
-    let long : streamIn k .channels < 18446744073709551616 = omega (arith, channels e, ap (λ (m : Stream). m .channels) (stream e)) in
+    let is = parts (p .before .before .before .before .before .before) .1 in
+    let next : Fields → Stream → Fields = λ f m. withStream f (advanced m (t .to) (t .points) end (p .plan-push .result .size) (p .plan-push .result .loopat) (s .args .left) (s .args .right) (s .args .last)) in
+    let after = c .before .before .put-pushed .ensures
+    ∙ ap (λ (m : Fields). putAt k 0 (pushedBytes m))
+    (c .before .before .before .before .with-stream .ensures ∙ ap (withStream (e .before .before .stream-in .result)) (c .before .before .before .before .before .advance .ensures) ∙ λ i. next (stream e i) (is i)) in
+    let long : streamIn k .channels < 18446744073709551616 = omega (arith, channels e, ap (λ (m : Fields). m .channels) (stream e)) in
     let stays = push-stream k (some e) w z (left-fits s) (right-fits s) long in
-    (ap (λ (m : Stream). record { number = 0; offset = m .offset; length = p .plan-push .result .size }) (stream e) ∙ r, q .1, after ∙ ap (λ (m : Stream). putAt k 0 (pushedBytes m)) stays, ap writerIn after ∙ push-after k (some e) w z (left-fits s) (right-fits s) long)
+    (ap (λ (m : Fields). record { number = 0; offset = m .offset; length = p .plan-push .result .size }) (stream e) ∙ r, q .1, after ∙ ap (λ (m : Fields). putAt k 0 (pushedBytes m)) stays, ap writerIn after ∙ push-after k (some e) w z (left-fits s) (right-fits s) long)
 
 pub push-kept-spec : {M : Type 1} → statement M
 push-kept-spec =
@@ -245,6 +288,8 @@ push-kept-spec =
     refused-requires
     same-length
     returns
+    setup-of-requires
+    stream-of-requires
     block-end-requires
     take-kept-requires
     held-kept-requires
@@ -256,6 +301,7 @@ push-kept-spec =
     put-taken-kept-requires
     put-data-requires
     advance-requires
+    with-stream-requires
     put-pushed-requires
     same-length-3
     same-length-4

@@ -1,4 +1,4 @@
-use Rattle.push_plan.specs.PushPlan.{advanced}
+use Rattle.writer.specs.Push.{advanced}
 use borrow.Author.Needs.{needs}
 use Rattle.push_advance.proofs.advance.Statement.{statement}
 use Rattle.push_advance.proofs.advance.Tie as tie

@@ -1,4 +1,4 @@
-use Rattle.push_due.specs.PushDue.{lengthDue}
+use Rattle.writer.specs.Loading.{lengthDue}
 use Rattle.push_due.proofs.DecideLaws.{decide-calls}
 use borrow.Author.Needs.{needs}
 use Rattle.push_due.proofs.length_due.Statement.{statement}

@@ -1,4 +1,4 @@
-use Rattle.push_due.specs.PushDue.{rateDue}
+use Rattle.writer.specs.Loading.{rateDue}
 use Rattle.push_due.proofs.DecideLaws.{decide}
 use borrow.Author.Needs.{needs}
 use Rattle.push_due.proofs.rate_due.Statement.{statement}

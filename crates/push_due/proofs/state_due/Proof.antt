@@ -1,4 +1,4 @@
-use Rattle.push_due.specs.PushDue.{stateDue}
+use Rattle.writer.specs.Loading.{stateDue}
 use Rattle.push_due.proofs.DecideLaws.{decide}
 use Rattle.push_due.proofs.state_due.Statement.{statement}
 use Rattle.push_due.proofs.state_due.Tie as tie

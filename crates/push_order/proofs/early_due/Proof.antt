@@ -1,4 +1,4 @@
-use Rattle.push_due.specs.PushDue.{earlyDue}
+use Rattle.writer.specs.Loading.{earlyDue}
 use Rattle.push_due.proofs.GroupLaws.{grouped}
 use borrow.Author.Needs.{needs}
 use Rattle.push_order.proofs.early_due.Statement.{statement}

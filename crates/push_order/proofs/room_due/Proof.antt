@@ -3,7 +3,7 @@ use mathlib.Core.Path.{_≡_}
 use native.Mathlib.Omega.{arith}
 use borrow.Author.Tests.{lt-ltb, le-ltb}
 use Rattle.layout.specs.Refusals.{firstDue}
-use Rattle.push_due.specs.PushDue.{roomDue}
+use Rattle.writer.specs.Loading.{roomDue}
 use Rattle.push_order.proofs.room_due.Statement.{statement}
 use Rattle.push_order.proofs.room_due.Tie as tie
 

@@ -1,12 +1,10 @@
 use Prim.Native.Nat.{_+_, _≤_}
-use mathlib.Core.Path.{_≡_, refl, ap, sym, _∙_}
+use mathlib.Core.Path.{_≡_, ap}
 use native.Mathlib.Omega.{arith}
-use lib.ListN.{length}
-use Rattle.layout.specs.Refusals.{firstDue, lengthLimit}
-use Rattle.push_due.specs.PushDue.{roomDue}
-use Rattle.writer.specs.Calls.{orAt}
-use Rattle.push_plan.specs.PushPlan.{sizeFor, loopFrom}
-use Rattle.push_plan.proofs.PlanLaws.{Passing, passing, size-small, block-small, fits-room, plan-early, plan-room, plan-made, loop-is, loop-near}
+use Rattle.layout.specs.Refusals.{lengthLimit}
+use Rattle.writer.specs.Loading.{dataSize}
+use Rattle.layout.specs.Records.{dataAfter}
+use Rattle.push_plan.proofs.PlanLaws.{Passing, passing, size-small, block-small, fits-room, plan-early, plan-room, plan-made, loop-near}
 use borrow.Author.Needs.{needs}
 use Rattle.push_plan.proofs.plan_push.Statement.{statement}
 use Rattle.push_plan.proofs.plan_push.Tie as tie
@@ -47,19 +45,14 @@ small c =
     let h = early-none (c .before) in
     size-small _ _ _ _ (h .left) (h .right) (c .data-size .ensures)
 
-sized : (c : tie.After-data-start) → c .data-start .result + c .before .data-size .result ≡ sizeFor (start (c .before .before) .args .taken .points) (start (c .before .before) .args .channels) (start (c .before .before) .args .left-bytes) (start (c .before .before) .args .right-bytes)
-unfolding sizeFor
+sized : (c : tie.After-data-start) → c .data-start .result + c .before .data-size .result ≡ dataAfter (start (c .before .before) .args .taken .points) + dataSize (start (c .before .before) .args .channels) (start (c .before .before) .args .left-bytes) (start (c .before .before) .args .right-bytes)
 sized c = rw (c .data-start .ensures, c .before .data-size .ensures)
 
 -- the block fits into slot and buffer
 room : (c : tie.Else2)
-    → (start (c .before .before .before .before) .args .s .offset + (c .before .before .data-start .result + c .before .before .before .data-size .result) ≤ start (c .before .before .before .before) .args .s .slot)
+    → (start (c .before .before .before .before) .args .s .offset + (c .before .before .data-start .result + c .before .before .before .data-size .result) ≤ start (c .before .before .before .before) .args .setup .slot)
     × (c .before .before .data-start .result + c .before .before .before .data-size .result ≤ start (c .before .before .before .before) .args .lent)
 room c = fits-room _ _ _ _ _ (c .before .room-due .ensures) (c .if2 .left)
-
-loop : (c : tie.After-loop-after)
-    → c .loop-after .result ≡ loopFrom (start (c .before .before .before .before .before .before) .args .s) (start (c .before .before .before .before .before .before) .args .held) (start (c .before .before .before .before .before .before) .args .taken .asked) (start (c .before .before .before .before .before .before) .args .end) (start (c .before .before .before .before .before .before) .args .last)
-loop c = loop-is _ _ _ _ _ _ (c .before .loop-due .ensures) _ (c .loop-after .ensures)
 
 -- ---- The other needs
 
@@ -83,7 +76,7 @@ returns-2 c =
     let d = c .before .before .before in
     let e = d .before .before in
     let s = start e in
-    plan-room (s .args .s) (s .args .taken) (s .args .held) (s .args .end) (s .args .channels) (s .args .left) (s .args .right) (s .args .left-bytes) (s .args .right-bytes) (s .args .last) (s .args .lent)
+    plan-room (s .args .setup) (s .args .s) (s .args .taken) (s .args .held) (s .args .end) (s .args .channels) (s .args .left) (s .args .right) (s .args .left-bytes) (s .args .right-bytes) (s .args .last) (s .args .lent)
     _ (e .before .early-due .ensures) (e .if1 .left) _ _ (sized d) (c .before .before .room-due .ensures) (c .before .if2 .taken) _ (c .no-plan2 .ensures)
 
 loop-due-requires : tie.Need-loop-due-requires
@@ -101,7 +94,7 @@ next-offset-requires : tie.Need-next-offset-requires
 next-offset-requires c κs =
     let e = c .before .before .before in
     let s = start (e .before .before .before .before) in
-    (omega (arith, room e .0, s .pre .0 .small), λ n q. omega (arith, loop-near _ _ _ _ _ (s .pre .0) _ (loop (c .before)) n q, s .pre .0 .room, s .pre .0 .small))
+    (omega (arith, room e .0, s .pre .0 .small), λ n q. omega (arith, loop-near _ _ (s .pre .0) (c .before .before .loop-due .result) _ (c .before .loop-after .ensures) n q, s .pre .0 .room, s .pre .0 .small))
 
 second-context-requires : tie.Need-second-context-requires
 second-context-requires c κs = search needs
@@ -122,8 +115,8 @@ returns-3 c =
     let d = f .before .before .before .before in
     let e = d .before .before in
     let s = start e in
-    plan-made (s .args .s) (s .args .taken) (s .args .held) (s .args .end) (s .args .channels) (s .args .left) (s .args .right) (s .args .left-bytes) (s .args .right-bytes) (s .args .last) (s .args .lent)
-    _ (e .before .early-due .ensures) (e .if1 .left) _ _ (sized d) (f .before .before .before .room-due .ensures) (f .before .before .if2 .left) _ (loop f)
+    plan-made (s .args .setup) (s .args .s) (s .args .taken) (s .args .held) (s .args .end) (s .args .channels) (s .args .left) (s .args .right) (s .args .left-bytes) (s .args .right-bytes) (s .args .last) (s .args .lent)
+    _ (e .before .early-due .ensures) (e .if1 .left) _ _ (sized d) (f .before .before .before .room-due .ensures) (f .before .before .if2 .left) _ (f .before .loop-due .ensures) _ (f .loop-after .ensures)
     _ _ _ _ (d .before .data-size .ensures) (d .data-start .ensures) (n .next-offset .ensures) (c .before .second-context .ensures)
 
 pub plan-push-spec : {M : Type 1} → statement M

@@ -1,4 +1,4 @@
-use Rattle.push_due.specs.PushDue.{coefficientsDue}
+use Rattle.writer.specs.Loading.{coefficientsDue}
 use Rattle.push_due.proofs.DecideLaws.{decide}
 use borrow.Author.Needs.{needs}
 use Rattle.sides_due.proofs.coefficients_due.Statement.{statement}

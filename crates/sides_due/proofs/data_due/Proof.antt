@@ -1,4 +1,4 @@
-use Rattle.push_due.specs.PushDue.{dataDue}
+use Rattle.writer.specs.Loading.{dataDue}
 use Rattle.push_due.proofs.DecideLaws.{decide-calls}
 use borrow.Author.Needs.{needs}
 use Rattle.sides_due.proofs.data_due.Statement.{statement}

@@ -3,13 +3,17 @@ use Rattle.writer.proofs.empty.Statement.{statement}
 use Rattle.writer.proofs.empty.Tie as tie
 use Rattle.writer.proofs.empty.Reads as reads
 use Rattle.writer.proofs.empty.Lts as lts
-use Rattle.writer.proofs.blank.Reads as blank-reads
+use Rattle.writer.proofs.no_cues.Reads as no-cues-reads
+use Rattle.writer.proofs.no_stream.Reads as no-stream-reads
 
-blank-requires : tie.Need-blank-requires
-blank-requires c κs = search needs
+no-cues-requires : tie.Need-no-cues-requires
+no-cues-requires c κs = search needs
+
+no-stream-requires : tie.Need-no-stream-requires
+no-stream-requires c κs = search needs
 
 returns : tie.Need-returns
-returns c = rw (c .before .before .before .blank .ensures)
+returns c = rw (c .before .no-cues .ensures, c .no-stream .ensures)
 
 pub empty-spec : {M : Type 1} → statement M
-empty-spec = tie.close (tie.spec blank-requires returns)
+empty-spec = tie.close (tie.spec no-cues-requires no-stream-requires returns)

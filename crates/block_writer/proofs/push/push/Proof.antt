@@ -3,10 +3,9 @@ use mathlib.Core.Path.{_≡_, ap, sym, _∙_}
 use native.Mathlib.Omega.{arith}
 use lib.ListN.{length}
 use Rattle.layout.specs.Records.{P}
-use Rattle.writer.specs.Loading.{Push}
-use Rattle.push_due.specs.PushDue.{pushArgs}
-use Rattle.push_plan.specs.declared.Stream.{Stream}
-use Rattle.push_plan.specs.PushPlan.{loopFrom, planOf, advanced, writerOf, streamOf}
+use Rattle.writer.specs.Loading.{Push, pushArgs}
+use Rattle.writer.specs.Push.{loopsHere, loopFrom}
+use Rattle.writer.specs.Calls.{withStream}
 use Rattle.writer.proofs.GoodLaws.{push-good}
 use Rattle.block_writer.proofs.PushLaws.{push-refused, push-accepted, sound, to-within, few-points, are-taken, Worked, due-is, passes, starts, totals, sized, room, after-is, bytes-are}
 use borrow.Author.Needs.{needs}
@@ -16,8 +15,6 @@ use Rattle.block_writer.proofs.push.push.Reads as reads
 use Rattle.block_writer.proofs.push.push.Lts as lts
 use Rattle.block_writer.proofs.push.put_data.Reads as put-data-reads
 use Rattle.block_writer.proofs.push.refused.Reads as refused-reads
-use Rattle.block_writer.proofs.push.stream_of.Reads as stream-of-reads
-use Rattle.block_writer.proofs.push.with_stream.Reads as with-stream-reads
 use Rattle.push_advance.proofs.advance.Reads as advance-reads
 use Rattle.push_plan.proofs.block_end.Reads as block-end-reads
 use Rattle.push_plan.proofs.plan_push.Reads as plan-push-reads
@@ -29,35 +26,30 @@ use Rattle.written.proofs.put_header.Reads as put-header-reads
 -- ---- What is known at the places of the code
 
 abbrev start : tie.After-any-loop → tie.Start
-start c = c .before .before .before .before .before .before .before .before
+start c = c .before .before .before .before .before .before .before .before .before
 
 -- the push, in the words of the definitions
 abbrev pushed : tie.Start → Push
 pushed s = pushArgs (s .args .channels) (s .args .left) (s .args .right) (s .args .left-data .now) (s .args .right-data .now) (s .args .last)
-
--- the record without its table
-stream : (c : tie.After-any-loop) → c .before .before .before .before .stream-of .result ≡ streamOf (start c .args .w)
-stream c = c .before .before .before .before .stream-of .ensures
 
 worked : (p : tie.After-plan-push) → let s = start (p .before) in
     Worked (s .args .w) (s .args .channels) (s .args .left) (s .args .right) (s .args .left-data .now) (s .args .right-data .now) (s .args .last) (s .args .lent .now)
     (p .before .before .before .block-end .result) (p .before .before .take .result) (p .before .any-loop .result) (p .plan-push .result)
 worked p =
     let s = start (p .before) in
+    let w = s .args .w in
     record {
       good = s .pre;
       ends = p .before .before .before .block-end .ensures;
       takes = p .before .before .take .ensures;
-      loops = ap (λ b. loopFrom (streamOf (s .args .w)) b (p .before .before .take .result .asked) (p .before .before .before .block-end .result) (s .args .last)) (p .before .any-loop .ensures);
-      plans =
-          p .plan-push .ensures
-          ∙ ap (λ (m : Stream). planOf m (p .before .before .take .result) (p .before .any-loop .result) (p .before .before .before .block-end .result) (s .args .channels) (s .args .left) (s .args .right) (length (s .args .left-data .now)) (length (s .args .right-data .now)) (s .args .last) (length (s .args .lent .now))) (stream (p .before));
+      loops =
+          ap
+          (λ b. loopFrom (w .stream .loopat) (w .stream .offset) (loopsHere (w .setup .mode) b (p .before .before .take .result .asked) (p .before .before .before .block-end .result) (s .args .last)))
+          (p .before .any-loop .ensures);
+      plans = p .plan-push .ensures;
     }
 
 -- ---- The needs
-
-stream-of-requires : tie.Need-stream-of-requires
-stream-of-requires c κs = search needs
 
 block-end-requires : tie.Need-block-end-requires
 block-end-requires c κs = search needs
@@ -71,7 +63,7 @@ any-loop-requires c κs = search needs
 plan-push-requires : tie.Need-plan-push-requires
 plan-push-requires c κs =
     let s = start c in
-    (rw (stream c) (sound (s .args .w) (s .pre)), few-points (s .args .w) (s .pre) _ _ _ (c .before .take .ensures))
+    (sound (s .args .w) (s .pre), few-points (s .args .w) (s .pre) _ _ _ (c .before .take .ensures))
 
 refused-requires : tie.Need-refused-requires
 refused-requires c κs = search needs
@@ -109,8 +101,7 @@ advance-requires c κs =
     let s = start (p .before) in
     let k = worked p in
     let h = passes k (e .if1 .left) in
-    let few = few-points (s .args .w) (s .pre) _ _ _ (k .takes) in
-    rw (stream (p .before)) (
+    let few = few-points (s .args .w) (s .pre) _ _ _ (k .takes) in (
       omega (arith, s .pre .named, s .pre .placed, s .pre .few, few),
       h .few,
       few,
@@ -118,24 +109,18 @@ advance-requires c κs =
       omega (arith, h .short, s .pre .sums, s .pre .many),
     )
 
-with-stream-requires : tie.Need-with-stream-requires
-with-stream-requires c κs = search needs
-
 same-length : tie.Need-same-length
 same-length c = search needs
 
 returns-2 : tie.Need-returns-2
 returns-2 c =
-    let v = c .before in
+    let v = c .before .before in
     let e = v .before .before .before .before .before .before .before .before .before .before .before .before .before .before in
     let p = e .before .before in
     let s = start (p .before) in
     let k = worked p in
     let z = e .if1 .left in
-    let a : c .with-stream .result ≡ _ =
-    c .with-stream .ensures
-    ∙ ap (writerOf (s .args .w .cues)) (v .advance .ensures ∙ ap (λ (m : Stream). advanced m (p .before .before .take .result) (p .before .before .before .block-end .result) (p .plan-push .result .size) (p .plan-push .result .loopat) (s .args .left) (s .args .right) (s .args .last)) (stream (p .before)))
-    ∙ after-is k z in
+    let a = ap (withStream (s .args .w)) (v .advance .ensures) ∙ after-is k z in
     let b = bytes-are k z _ _ _ (v .before .before .before .before .before .before .before .before .before .before .before .put-header .ensures) (v .before .before .before .before .before .before .before .put-taken .ensures) (v .before .before .before .put-data .ensures) in
     let q = push-accepted (s .args .w) (pushed s) (s .args .lent .now) _ (due-is k) z _ _ _ a (sized k z) (room k z .1) b in
     (q .0, (q .1, rw a (push-good (s .args .w) (pushed s) _ (s .pre) (sym (due-is k) ∙ z))))
@@ -144,7 +129,6 @@ pub push-spec : {M : Type 1} → statement M
 push-spec =
     tie.close
     (tie.spec
-    stream-of-requires
     block-end-requires
     take-requires
     any-loop-requires
@@ -155,6 +139,5 @@ push-spec =
     put-taken-requires
     put-data-requires
     advance-requires
-    with-stream-requires
     same-length
     returns-2)

@@ -19,7 +19,7 @@ returns c = (search (refused-answer, needs), (search (refused-lent, needs), sear
 header-requires : tie.Need-header-requires
 header-requires c κs =
     let d = c .before .before .before in
-    let s = d .before .before in
+    let s = d .before .before .before in
     sum-fits (s .args .w) (s .args .lent .now) (s .pre) _ (d .finish-due .ensures) (c .before .before .if1 .left)
 
 slice-aggregate-hand-out : tie.Need-slice-aggregate-hand-out
@@ -31,7 +31,7 @@ size c = search needs
 hand-out-requires : tie.Need-hand-out-requires
 hand-out-requires c κs =
     let d = c .before .before .before .before .before .before in
-    let s = d .before .before in
+    let s = d .before .before .before in
     (size (c .before .before), room (s .args .w) (s .args .lent .now) (s .pre) _ (d .finish-due .ensures) (c .before .before .before .before .before .if1 .left))
 
 same-length : tie.Need-same-length
@@ -42,7 +42,7 @@ unfolding headerOf afterFinish
 returns-2 c =
     let h = c .before .before .before .before .before .before .before .before in
     let d = h .before .before .before .before in
-    let s = d .before .before in
+    let s = d .before .before .before in
     finish-accepted (s .args .w) (s .args .lent .now) (s .pre) _ (d .finish-due .ensures) (h .before .before .before .if1 .left) (h .header .result) _ _ (h .header .ensures) (size h) (c .before .before .before .before .before .hand-out .ensures) refl
 
 pub finish-spec : {M : Type 1} → statement M

@@ -1,7 +1,7 @@
 use mathlib.Core.Path.{_≡_, sym, ap, _∙_}
 use lib.Dec.{eqb}
 use Rattle.writer.specs.Calls.{Outcome, pushOf}
-use Rattle.push_due.specs.PushDue.{pushArgs}
+use Rattle.writer.specs.Loading.{pushArgs}
 use Rattle.kept_sides.specs.KeptSides.{sidesShort}
 use Rattle.kept_writer.specs.KeptWriter.{streamIn, writerIn}
 use Rattle.kept_loading.specs.KeptLoading.{onKept, givenAfter, bytesPushed}

@@ -1,19 +1,17 @@
 -- The data of a block, and its parts put one after the other.
 use Prim.Native.Nat.{ℕ, _+_, _*_, _<_, _≤_}
-use mathlib.Core.Path.{_≡_, refl, ap, sym, _∙_}
+use mathlib.Core.Path.{_≡_, ap, sym, _∙_}
 use mathlib.Core.List.{List, _++_, append-assoc, append-nil}
 use native.Mathlib.Omega.{arith}
 use borrow.Author.Tests.{eq-eqb, ne-eqb}
 use lib.ListN.{length}
-use lib.Dec.{eqb}
-use Rattle.layout.specs.Lists.{sum, concat}
+use Rattle.layout.specs.Lists.{concat}
 use Rattle.layout.specs.Records.{P, padded, sizeOf, blockHeader, blockBytes, dataAfter}
 use Rattle.layout.specs.Puts.{putAt}
 use Rattle.layout.specs.Sizes.{saturated}
 use Rattle.layout.specs.declared.BlockHeader.{BlockHeader}
 use Rattle.layout.proofs.Lengths.{padded-length, data-length}
 use Rattle.layout.proofs.SizeLaws.{aligned}
-use Rattle.layout.proofs.Cases.{by-cases}
 use Rattle.puts.proofs.PutLaws.{put-then}
 use Rattle.written.specs.HeaderPut.{headerPut}
 use Rattle.written.proofs.WrittenLaws.{put-length-32, header-put-is}

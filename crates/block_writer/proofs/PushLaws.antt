@@ -1,5 +1,5 @@
 -- For the proof of push: the order of refusals, and the block's bytes and the record afterwards by the plan.
-use Prim.Native.Nat.{ℕ, _+_, _*_, _<_, _≤_}
+use Prim.Native.Nat.{ℕ, _+_, _≤_}
 use mathlib.Core.Path.{_≡_, refl, ap, sym, _∙_}
 use mathlib.Core.Bool.{Bool, true, false}
 use mathlib.Core.List.{List, append-nil}
@@ -21,10 +21,10 @@ use Rattle.written.specs.HeaderPut.{headerPut}
 use Rattle.writer.specs.Loading.{Push, pushArgs, dataIn, points, anyLoop, dataSize, sizeWith, blockSize, bytesOf, earlyDue, pushOrder, pushRefusal}
 use Rattle.writer.specs.Push.{countTaken, cuesTaken, loopFrom, loopsHere, nextOffset, advanced}
 use Rattle.writer.specs.WritesAndCuttingRule.{handed}
-use Rattle.writer.specs.Calls.{noPlace, called, sampleEnd, takenOf, endFor, standingIn, loopDue, loopAfter, nextFor, withStream, afterPush, pushBytes, pushOf, Good}
+use Rattle.writer.specs.Calls.{called, sampleEnd, takenOf, endFor, standingIn, loopDue, loopAfter, nextFor, withStream, afterPush, pushBytes, pushOf, Good}
 use Rattle.writer.specs.declared.ChannelBlock.{ChannelBlock}
 use Rattle.writer.specs.declared.HpsWriter.{HpsWriter}
-use Rattle.writer.specs.declared.Reply.the-variants.{Refused, Accepted}
+use Rattle.writer.specs.declared.Reply.the-variants.{Refused, OneWrite}
 use Rattle.writer.specs.declared.Called.{Called}
 use Rattle.writer.proofs.DueLaws.{passed}
 use Rattle.writer.proofs.GoodLaws.{samples-few}
@@ -49,7 +49,7 @@ has-room w p lent size h e =
     (omega arith, omega arith)
 
 module _ (w : HpsWriter) (p : Push) (lent : List ℕ) (n : ℕ) (is : n ≡ pushRefusal (standingIn w) (takenOf w p) p (length lent)) where
-  pub push-refused : (n ≡ 0 → ⊥) → (q : Called) → q ≡ record { reply = Refused n; place = noPlace; writer = w }
+  pub push-refused : (n ≡ 0 → ⊥) → (q : Called) → q ≡ record { reply = Refused n; writer = w }
       → (q ≡ called (pushOf w p lent)) × (lent ≡ pushOf w p lent .lent)
   unfolding pushOf
   push-refused h q e =
@@ -57,7 +57,7 @@ module _ (w : HpsWriter) (p : Push) (lent : List ℕ) (n : ℕ) (is : n ≡ push
       rw (f, e, is) (refl, refl)
 
   pub push-accepted : n ≡ 0 → (v : HpsWriter) (size : ℕ) (b : List ℕ) → v ≡ afterPush w p → size ≡ blockSize (takenOf w p) p → size ≤ length lent → b ≡ putAt lent 0 (pushBytes w p)
-      → (record { reply = Accepted 0; place = record { offset = w .stream .offset; length = size }; writer = v } ≡ called (pushOf w p lent)) × (b ≡ pushOf w p lent .lent)
+      → (record { reply = OneWrite (record { offset = w .stream .offset; length = size }); writer = v } ≡ called (pushOf w p lent)) × (b ≡ pushOf w p lent .lent)
   unfolding pushOf handed pushBytes
   push-accepted z v size b ev es h eb =
       let f : eqb (pushRefusal (standingIn w) (takenOf w p) p (length lent)) 0 ≡ true = eq-eqb _ 0 (sym is ∙ z) in

@@ -20,7 +20,7 @@ ghost use lib.ListN.{length};
 ghost use Rattle.layout.specs.Lists.{concat};
 ghost use Rattle.layout.specs.Records.{padded};
 ghost use Rattle.layout.specs.Puts.{putAt};
-ghost use Rattle.writer.specs.Calls.{called, noPlace, pushOf, Good};
+ghost use Rattle.writer.specs.Calls.{called, pushOf, Good};
 ghost use Rattle.writer.specs.Loading.{pushArgs, dataIn, dataSize};
 
 // Each channel's data, padded.
@@ -36,14 +36,10 @@ pub fn put_data(buf: &mut [u8], at: usize, channels: usize, left: &[u8], right: 
 
 // A refused call hands out no write and leaves the record.
 fn refused(w: HpsWriter, due: u32) -> Called
-    ensures { λ q. ⌜ q ≡ record { reply = Reply.Refused due; place = noPlace; writer = w } ⌝ }
+    ensures { λ q. ⌜ q ≡ record { reply = Reply.Refused due; writer = w } ⌝ }
 {
     Called {
         reply: Reply::Refused(due),
-        place: Place {
-            offset: 0,
-            length: 0,
-        },
         writer: w,
     }
 }
@@ -106,11 +102,10 @@ pub fn push(
     let loopat = plan.loopat;
     let stream = advance(s, taken, end, plan.size, loopat, left, right, last);
     Called {
-        reply: Reply::Accepted(0),
-        place: Place {
+        reply: Reply::OneWrite(Place {
             offset: s.offset,
             length: plan.size,
-        },
+        }),
         writer: HpsWriter { stream, ..w },
     }
 }

@@ -1,6 +1,6 @@
 -- A script's begin, and its calls after it.
 use Prim.Native.Nat.{ℕ, _≤_, _+_}
-use mathlib.Core.Path.{_≡_, refl, ap, sym, _∙_}
+use mathlib.Core.Path.{_≡_, ap, sym, _∙_}
 use mathlib.Core.Bool.{Bool, true, false}
 use mathlib.Core.List.{List, _++_}
 use native.Mathlib.Omega.{arith}
@@ -13,8 +13,8 @@ use Rattle.script.specs.Lines.{beginLine}
 use Rattle.script.specs.declared.lines.BeginLine.{BeginLine}
 use Rattle.script_order.specs.Order.{Starts}
 use Rattle.script_order.specs.declared.Start.{Start}
-use Rattle.writer.specs.Loading.{Answer, refused, accepted, beginRefusal}
-use Rattle.writer.specs.Calls.{Outcome, replyOf, beginOf}
+use Rattle.writer.specs.Loading.{refused, accepted, beginRefusal}
+use Rattle.writer.specs.Calls.{Outcome, beginOf, answerOf}
 use Rattle.writer.proofs.DueLaws.{passed-begin}
 use Rattle.power_cut.specs.PowerCut.{writesOf}
 use Rattle.noted.specs.Noted.{notedIn}
@@ -25,12 +25,8 @@ use Rattle.calls.specs.Carried.{isRefused, refusedReply, Loads}
 use Rattle.calls.specs.declared.loading.Loaded.{Loaded}
 use Rattle.layout.specs.Refusals.{slotLimit, slotLeast, keyLimit}
 
-same-refusal : (a : Answer) → refusedReply (replyOf a) ≡ isRefused a
-same-refusal (refused n) = refl
-same-refusal (accepted n) = refl
-
 -- Begin's answer is a refusal, or 0; a slot of more than 65,536 bytes is refused.
-begin-accepted : (n ch : ℕ) (b : BeginLine) (lent : List ℕ) → isRefused (beginOf n ch (b .mode) lent .answer) ≡ false → (beginRefusal n ch (length lent) ≡ 0) × (beginOf n ch (b .mode) lent .answer ≡ accepted 0)
+begin-accepted : (n ch : ℕ) (b : BeginLine) (lent : List ℕ) → isRefused (answerOf (beginOf n ch (b .mode) lent)) ≡ false → (beginRefusal n ch (length lent) ≡ 0) × (answerOf (beginOf n ch (b .mode) lent) ≡ accepted 0)
 unfolding beginOf
 begin-accepted n ch b lent h =
     by-cases (eqb (beginRefusal n ch (length lent)) 0)
@@ -45,7 +41,7 @@ small-slot slot ch lent h =
     (λ q. rw q (ltb-false keyLimit slot q))
 
 -- So an accepted begin is given the slot's own length.
-pub own-length : (slot ch : ℕ) (b : BeginLine) (lent : List ℕ) → beginOf (begunLength slot) ch (b .mode) lent .answer ≡ accepted 0 → begunLength slot ≡ slot
+pub own-length : (slot ch : ℕ) (b : BeginLine) (lent : List ℕ) → answerOf (beginOf (begunLength slot) ch (b .mode) lent) ≡ accepted 0 → begunLength slot ≡ slot
 own-length slot ch b lent a =
     let small = small-slot slot ch (length lent) (begin-accepted (begunLength slot) ch b lent (ap isRefused a) .0) in
     by-cases (ltb keyLimit slot) (λ q. let l : slotLimit + 1 ≤ keyLimit = rw q at small in absurd (omega arith)) (λ q. rw q)
@@ -59,15 +55,15 @@ module _ (slot : ℕ) {n : ℕ} {s line : List ℕ} {st : Start} {b : BeginLine}
   unfolding begins
   is-begins = rw (en, eb, el, start .line, start .buffer)
 
-  answer-is : r ≡ isRefused (begins slot s .answer)
-  answer-is = er ∙ rw (made .reply) (same-refusal (beginBy n b st .answer)) ∙ ap (λ (x : Outcome). isRefused (x .answer)) is-begins
+  answer-is : r ≡ isRefused (answerOf (begins slot s))
+  answer-is = er ∙ ap refusedReply (made .reply) ∙ ap (λ (x : Outcome). isRefused (answerOf x)) is-begins
 
   pub loads-nothing : {q : Loaded} {k : List ℕ} → r ≡ true → q .refused ≡ true → Loads slot s q k
   loads-nothing t e = record { refused = e ∙ sym t ∙ answer-is; is = λ f. apart (sym e ∙ f) }
 
   module _ (a : r ≡ false) (room : logSize ≤ length kept) where
-    fine : (beginRefusal n (b .channels) (length (lentOf (st .lent))) ≡ 0) × (beginBy n b st .answer ≡ accepted 0)
-    fine = begin-accepted n (b .channels) b (lentOf (st .lent)) (sym (same-refusal (beginBy n b st .answer)) ∙ rw (← made .reply, ← er) a)
+    fine : (beginRefusal n (b .channels) (length (lentOf (st .lent))) ≡ 0) × (answerOf (beginBy n b st) ≡ accepted 0)
+    fine = begin-accepted n (b .channels) b (lentOf (st .lent)) (ap refusedReply (sym (made .reply)) ∙ sym er ∙ a)
 
     pub begun-tally : Tally (m .noted) (m .writer) after
     begun-tally =

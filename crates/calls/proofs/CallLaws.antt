@@ -27,11 +27,11 @@ use Rattle.script.proofs.kinds.Kind.{the-type}
 use Rattle.script.proofs.LineLaws.{not-kind}
 use Rattle.script_order.specs.Order.{sidesIn}
 use Rattle.writer.specs.Loading.{Call, cue, push, finish, has, cueRefusal, pushArgs}
-use Rattle.writer.specs.Calls.{cued, held, afterCue, cueOf, pushOf, finishOf, Good}
+use Rattle.writer.specs.Calls.{called, held, afterCue, cueOf, pushOf, finishOf, Good}
 use Rattle.writer.specs.declared.Cue.{Cue}
 use Rattle.writer.specs.declared.HpsWriter.{HpsWriter}
 use Rattle.writer.specs.declared.Reply.{Reply}
-use Rattle.writer.specs.declared.Cued.{Cued}
+use Rattle.writer.specs.declared.Called.{Called}
 use Rattle.writer.proofs.ServerLaws.{cue-writes}
 use Rattle.power_cut.specs.PowerCut.{step, writesOf}
 use Rattle.noted.specs.declared.Noted.{Noted}
@@ -99,7 +99,7 @@ module _ {w : HpsWriter} {j : Noted} {kept : List ℕ} where
       let same : Tally j (afterCue w c) kept = by-cases (has c (held w)) (λ e. rw e t) (λ e. rw e (record { listed = t .listed; room = t .room; small = t .small; many = t .many; bytes = t .bytes })) in
       by-cases (eqb (cueRefusal (w .stream .blocks) (held w) c) 0) (λ e. rw e same) (λ e. rw e t)
 
-  pub cue-makes : (c : Cue) {q : Cued} → q ≡ cued (cueOf w c) → Good (q .writer) → Tally j w kept → Makes (cue c ∷ []) w j kept (record { writer = q .writer; reply = q .reply; noted = j }) kept
+  pub cue-makes : (c : Cue) {q : Called} → q ≡ called (cueOf w c) → Good (q .writer) → Tally j w kept → Makes (cue c ∷ []) w j kept (record { writer = q .writer; reply = q .reply; noted = j }) kept
   unfolding writesOf
   cue-makes c e g t =
       record { good = g; tally = rw e (cue-tally c t); is = λ later. rw (e, cue-writes w c) }

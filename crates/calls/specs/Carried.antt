@@ -7,10 +7,9 @@ use lib.ListN.{drop}
 use Rattle.words.specs.Texts.{nextOf, linesOf}
 use Rattle.writer.specs.WritesAndCuttingRule.{Write}
 use Rattle.writer.specs.Loading.{Call, Answer, refused, accepted}
-use Rattle.writer.specs.Calls.{Good}
+use Rattle.writer.specs.Calls.{answerIn, Good, answerOf}
 use Rattle.writer.specs.declared.HpsWriter.{HpsWriter}
 use Rattle.writer.specs.declared.Reply.{Reply}
-use Rattle.writer.specs.declared.Reply.the-variants.{Refused, Accepted}
 use Rattle.power_cut.specs.PowerCut.{writesOf}
 use Rattle.noted.specs.Noted.{notedIn}
 use Rattle.noted.specs.declared.Noted.{Noted}
@@ -46,10 +45,9 @@ isRefused (refused n) = true
 isRefused (accepted n) = false
 
 abbrev pub refusedReply : Reply → Bool
-refusedReply (Refused n) = true
-refusedReply (Accepted n) = false
+refusedReply r = isRefused (answerIn r)
 
 -- A script is carried out: "If begin is refused, its STOP line is the whole answer"; else all its writes are noted.
 pub record Loads (slot : ℕ) (s : List ℕ) (q : Loaded) (after : List ℕ) : Type 0 where
-  pub refused : q .refused ≡ isRefused (begins slot s .answer)
+  pub refused : q .refused ≡ isRefused (answerOf (begins slot s))
   pub is : q .refused ≡ false → notedIn (q .noted) after ≡ scriptWrites slot s

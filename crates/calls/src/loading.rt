@@ -108,7 +108,9 @@ fn is_refused(reply: Reply) -> bool
 {
     match reply {
         Reply::Refused(_) => true,
-        Reply::Accepted(_) => false,
+        Reply::NoWrite => false,
+        Reply::OneWrite(_) => false,
+        Reply::ThreeWrites(_, _, _, _) => false,
     }
 }
 
@@ -148,7 +150,7 @@ fn load_rest(v: Voice, s: &[u8], from: usize, m: Made, lent: usize, kept: &mut [
 // Tells begin's call: its refusal in every case, since it is the whole answer then.
 fn tell_begin(v: Voice, refused: bool, reply: Reply, noted: Noted) {
     if v.say | refused {
-        tell_call(v.fd, 0, Kind::Begin, reply, noted, 0);
+        tell_call(v.fd, 0, reply, noted, 0);
     }
 }
 

@@ -135,7 +135,7 @@ pub(crate) fn make(
         Kind::Point | Kind::Loop | Kind::Range => cue_call(line, kind, w, j),
         _ => Made {
             writer: w,
-            reply: Reply::Accepted(0),
+            reply: Reply::NoWrite,
             noted: j,
         },
     }

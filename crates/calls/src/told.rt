@@ -13,10 +13,14 @@ pub struct Voice {
 }
 
 // DONE and the call's number, of finish the length too; or STOP, the number and the refusal.
-fn tell_reply(fd: i32, call: u64, reply: Reply, count: usize) {
+fn tell_reply(fd: i32, call: u64, reply: Reply) {
     match reply {
         Reply::Refused(number) => print_numbers(fd, b"STOP", [call, number as u64, 0], 2),
-        Reply::Accepted(length) => print_numbers(fd, b"DONE", [call, length as u64, 0], count),
+        Reply::NoWrite => print_numbers(fd, b"DONE", [call, 0, 0], 1),
+        Reply::OneWrite(_) => print_numbers(fd, b"DONE", [call, 0, 0], 1),
+        Reply::ThreeWrites(length, _, _, _) => {
+            print_numbers(fd, b"DONE", [call, length as u64, 0], 2)
+        }
     }
 }
 
@@ -42,17 +46,9 @@ fn tell_writes(fd: i32, call: u64, noted: Noted, from: usize) {
     }
 }
 
-// How many numbers a call's DONE has: finish's has the length too.
-fn numbers_of(kind: Kind) -> usize {
-    if let Kind::Finish = kind {
-        return 2;
-    }
-    1
-}
-
 // Tells a call: its reply, and the writes that are noted from its first on.
-pub(crate) fn tell_call(fd: i32, call: u64, kind: Kind, reply: Reply, noted: Noted, from: usize) {
-    tell_reply(fd, call, reply, numbers_of(kind));
+pub(crate) fn tell_call(fd: i32, call: u64, reply: Reply, noted: Noted, from: usize) {
+    tell_reply(fd, call, reply);
     tell_writes(fd, call, noted, from);
 }
 
@@ -81,7 +77,7 @@ pub(crate) fn tell_line(
         return call;
     }
     if v.say {
-        tell_call(v.fd, call, kind, reply, noted, from);
+        tell_call(v.fd, call, reply, noted, from);
     }
     one_more(call)
 }

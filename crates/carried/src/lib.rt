@@ -8,27 +8,6 @@ use stored::part;
 use writer::Place;
 use writer::Reply;
 
-// Whether a call answered with this number, or with 0 if it was accepted.
-pub fn is_reply(reply: Reply, due: u32) -> bool {
-    match reply {
-        Reply::Refused(n) => n == due,
-        Reply::Accepted(_) => due == 0,
-    }
-}
-
-// The same of finish, which gives the finished length.
-fn is_finished(reply: Reply, due: u32, length: usize) -> bool {
-    match reply {
-        Reply::Refused(n) => n == due,
-        Reply::Accepted(n) => {
-            if due != 0 {
-                return false;
-            }
-            n == length
-        }
-    }
-}
-
 // Whether the slot opens; with 2 or 3 where it must not.
 fn opens_as(s: &[u8], opens: bool) -> bool {
     let opened = open(s);
@@ -56,29 +35,15 @@ fn carry_out(slot: &mut [u8], n: usize, place: Place, bytes: &[u8], opens: bool)
     opens_as(part(slot, 0, n), opens)
 }
 
-// Whether begin or push answered so; if it was accepted, its write is carried out.
-pub fn is_carried(
+// Finish's three writes: their bytes lie in the lent buffer one after the other.
+fn carry_header(
     slot: &mut [u8],
     n: usize,
-    reply: Reply,
-    due: u32,
-    place: Place,
+    start: Place,
+    rest: Place,
+    mark: Place,
     lent: &[u8],
 ) -> bool {
-    if !is_reply(reply, due) {
-        return false;
-    }
-    if due != 0 {
-        return true;
-    }
-    carry_out(slot, n, place, part(lent, 0, place.length), false)
-}
-
-// Finish's three writes: their bytes lie in the lent buffer one after the other.
-fn carry_header(slot: &mut [u8], n: usize, places: [Place; 3], lent: &[u8]) -> bool {
-    let start = places[0];
-    let rest = places[1];
-    let mark = places[2];
     if !carry_out(slot, n, start, part(lent, 0, 15), false) {
         return false;
     }
@@ -88,21 +53,32 @@ fn carry_header(slot: &mut [u8], n: usize, places: [Place; 3], lent: &[u8]) -> b
     carry_out(slot, n, mark, part(lent, 127, 1), true)
 }
 
-// The same as is_carried, of finish.
-pub fn is_header_carried(
+// Whether a call answered with this number, or with 0 if it was accepted, finish with this length too; the writes of an accepted call are carried out.
+pub fn is_carried(
     slot: &mut [u8],
     n: usize,
     reply: Reply,
     due: u32,
     length: usize,
-    places: [Place; 3],
     lent: &[u8],
 ) -> bool {
-    if !is_finished(reply, due, length) {
-        return false;
+    match reply {
+        Reply::Refused(number) => number == due,
+        Reply::NoWrite => due == 0,
+        Reply::OneWrite(place) => {
+            if due != 0 {
+                return false;
+            }
+            carry_out(slot, n, place, part(lent, 0, place.length), false)
+        }
+        Reply::ThreeWrites(finished, start, rest, mark) => {
+            if due != 0 {
+                return false;
+            }
+            if finished != length {
+                return false;
+            }
+            carry_header(slot, n, start, rest, mark, lent)
+        }
     }
-    if due != 0 {
-        return true;
-    }
-    carry_header(slot, n, places, lent)
 }

@@ -18,9 +18,9 @@ use Rattle.writer.specs.declared.CueKind.{CueKind}
 use Rattle.writer.specs.declared.CueKind.the-variants.{Point, Loop, Range}
 use Rattle.writer.specs.declared.Cue.{Cue}
 use Rattle.writer.specs.declared.HpsWriter.{HpsWriter}
-use Rattle.writer.specs.declared.Reply.the-variants.{Refused, Accepted}
-use Rattle.writer.specs.declared.Cued.{Cued}
-use Rattle.writer.specs.Calls.{held, withTable, afterCue, cueOf, cued, Good}
+use Rattle.writer.specs.declared.Reply.the-variants.{Refused, NoWrite}
+use Rattle.writer.specs.declared.Called.{Called}
+use Rattle.writer.specs.Calls.{held, withTable, afterCue, cueOf, called, Good}
 use Rattle.writer.proofs.DueLaws.{passed-cue}
 use Rattle.writer.proofs.GoodLaws.{cue-kept}
 
@@ -84,8 +84,8 @@ module _ (n : ℕ) (bad equal : Bool) (k : ℕ) where
 -- ---- The answers
 
 -- What cue ensures of its result.
-abbrev Answers : HpsWriter → Cue → Cued → Type 0
-Answers w c q = (q ≡ cued (cueOf w c)) × Good (q .writer)
+abbrev Answers : HpsWriter → Cue → Called → Type 0
+Answers w c q = (q ≡ called (cueOf w c)) × Good (q .writer)
 
 held-count : (w : HpsWriter) → Good w → length (held w) ≡ w .table .count
 held-count w g = length-take (w .table .count) (w .table .cues) ∙ omega (arith, g .few, g .table)
@@ -98,15 +98,15 @@ is-due : (w : HpsWriter) (c : Cue) → Good w → (b f : Bool) (r : ℕ) → b �
     → r ≡ cueOrder (w .stream .blocks) b f (w .table .count) → r ≡ cueRefusal (w .stream .blocks) (held w) c
 is-due w c g b f r eb ef er = er ∙ rw (eb, ef, held-count w g)
 
-module _ (w : HpsWriter) (c : Cue) (g : Good w) {q : Cued} where
-  and-good : q ≡ cued (cueOf w c) → Answers w c q
+module _ (w : HpsWriter) (c : Cue) (g : Good w) {q : Called} where
+  and-good : q ≡ called (cueOf w c) → Answers w c q
   and-good e = (e, rw e (cue-kept w g c))
 
   refuses-with : (n : ℕ) → q ≡ record { reply = Refused n; writer = w } → cueRefusal (w .stream .blocks) (held w) c ≡ n → (n ≡ 0 → ⊥) → Answers w c q
   unfolding cueOf
   refuses-with n e r h = and-good (e ∙ rw (r, ne-eqb n 0 h))
 
-  accepts-as : (v : HpsWriter) → q ≡ record { reply = Accepted 0; writer = v } → cueRefusal (w .stream .blocks) (held w) c ≡ 0 → v ≡ afterCue w c → Answers w c q
+  accepts-as : (v : HpsWriter) → q ≡ record { reply = NoWrite; writer = v } → cueRefusal (w .stream .blocks) (held w) c ≡ 0 → v ≡ afterCue w c → Answers w c q
   unfolding cueOf
   accepts-as v e r h = and-good (e ∙ rw (r, h))
 
@@ -115,11 +115,11 @@ module _ (w : HpsWriter) (c : Cue) (g : Good w) {q : Cued} where
     refused-cue e h = refuses-with r e (sym (is-due w c g b f r eb ef er)) h
 
     module _ (none : r ≡ 0) where
-      pub equal-cue : q ≡ record { reply = Accepted 0; writer = w } → f ≡ true → Answers w c q
+      pub equal-cue : q ≡ record { reply = NoWrite; writer = w } → f ≡ true → Answers w c q
       unfolding afterCue
       equal-cue e h = accepts-as w e (sym (is-due w c g b f r eb ef er) ∙ none) (rw (sym ef ∙ h))
 
-      pub new-cue : {i : ℕ} {u : List Cue} → q ≡ record { reply = Accepted 0; writer = withTable w u (w .table .count + 1) } → f ≡ false
+      pub new-cue : {i : ℕ} {u : List Cue} → q ≡ record { reply = NoWrite; writer = withTable w u (w .table .count + 1) } → f ≡ false
           → i ≡ firstIndex (before c) (held w) → u ≡ take i (w .table .cues) ++ (c ∷ (take (w .table .count - i) (drop i (w .table .cues)) ++ drop (w .table .count + 1) (w .table .cues)))
           → Answers w c q
       unfolding afterCue

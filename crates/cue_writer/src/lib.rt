@@ -4,10 +4,10 @@ use cue_table::place_of;
 use cue_table::put_in;
 use layout::limits::CUE_LIMIT;
 use layout::limits::START_LIMIT;
+use writer::Called;
 use writer::Cue;
 use writer::CueKind;
 use writer::CueTable;
-use writer::Cued;
 use writer::HpsWriter;
 use writer::Reply;
 ghost use mathlib.Core.Path.{_≡_};
@@ -16,7 +16,7 @@ ghost use lib.Dec.{ltb};
 ghost use Rattle.layout.specs.Choice.{_or_};
 ghost use Rattle.layout.specs.Refusals.{startLimit};
 ghost use Rattle.writer.specs.Loading.{zeroRange, cueOrder};
-ghost use Rattle.writer.specs.Calls.{Good, cueOf, cued};
+ghost use Rattle.writer.specs.Calls.{Good, cueOf, called};
 
 // Refused with 8: the start is too late, or a range is empty.
 fn is_bad(start: u64, kind: CueKind) -> bool
@@ -51,28 +51,28 @@ fn cue_due(blocks: usize, bad: bool, equal: bool, count: usize) -> u32
     0
 }
 
-fn refused(w: HpsWriter, number: u32) -> Cued
+fn refused(w: HpsWriter, number: u32) -> Called
     ensures { λ q. ⌜ q ≡ record { reply = Reply.Refused number; writer = w } ⌝ }
 {
-    Cued {
+    Called {
         reply: Reply::Refused(number),
         writer: w,
     }
 }
 
-fn accepted(next: HpsWriter) -> Cued
-    ensures { λ q. ⌜ q ≡ record { reply = Reply.Accepted 0; writer = next } ⌝ }
+fn accepted(next: HpsWriter) -> Called
+    ensures { λ q. ⌜ q ≡ record { reply = Reply.NoWrite; writer = next } ⌝ }
 {
-    Cued {
-        reply: Reply::Accepted(0),
+    Called {
+        reply: Reply::NoWrite,
         writer: next,
     }
 }
 
 // Cue: it goes to its place in the table, unless an equal one is there.
-pub fn cue(w: HpsWriter, c: Cue) -> Cued
+pub fn cue(w: HpsWriter, c: Cue) -> Called
     requires { ⌜ Good w ⌝ }
-    ensures { λ q. ⌜ q ≡ cued (cueOf w c) ⌝ }
+    ensures { λ q. ⌜ q ≡ called (cueOf w c) ⌝ }
     ensures { λ q. ⌜ Good (q .writer) ⌝ }
 {
     let kind = c.kind;

@@ -2,7 +2,7 @@
 use Prim.Native.Nat.{ℕ, _/_, _%_, _<_, _≤_}
 use mathlib.Core.Path.{_≡_, refl, sym, _∙_}
 use mathlib.Core.Bool.{Bool, true, false, not}
-use mathlib.Core.List.{List, [], _∷_, _++_, append-assoc, append-nil}
+use mathlib.Core.List.{List, _++_, append-assoc, append-nil}
 use native.Mathlib.Omega.{arith}
 use borrow.Author.Tests.{lt-ltb, le-ltb, eq-eqb, ne-eqb, eqb-false, ltb-false}
 use lib.Dec.{eqb}
@@ -16,11 +16,11 @@ use Rattle.layout.proofs.Lengths.{file-header-length}
 use Rattle.puts.proofs.PutLaws.{Put, put-then, putAt-in}
 use Rattle.writer.specs.declared.ChannelBlock.{ChannelBlock}
 use Rattle.writer.specs.declared.HpsWriter.{HpsWriter}
-use Rattle.writer.specs.declared.Reply.the-variants.{Refused, Accepted}
-use Rattle.writer.specs.declared.Finished.{Finished}
+use Rattle.writer.specs.declared.Reply.the-variants.{Refused, ThreeWrites}
+use Rattle.writer.specs.declared.Called.{Called}
 use Rattle.writer.specs.Loading.{finishRefusal, filled, second, headerFor, headerWrites}
 use Rattle.writer.specs.WritesAndCuttingRule.{handed}
-use Rattle.writer.specs.Calls.{noPlace, headerOf, afterFinish, finishOf, finished, Good}
+use Rattle.writer.specs.Calls.{headerOf, afterFinish, finishOf, called, Good}
 use Rattle.writer.proofs.DueLaws.{passed-finish}
 use Rattle.writer.proofs.GoodLaws.{finish-good}
 
@@ -110,19 +110,19 @@ header-is b ch n k l r x y hl hr ex ey ek e =
 -- ---- What finish leaves
 
 module _ (w : HpsWriter) (lent : List ℕ) (g : Good w) (r : ℕ) (e : r ≡ finishRefusal (w .finished) (w .stream .blocks) (w .stream .last) (length lent)) where
-  abbrev Leaves : Finished → List ℕ → Type 0
-  Leaves q l = (q ≡ finished (finishOf w lent)) × ((l ≡ finishOf w lent .lent) × Good (q .writer))
+  abbrev Leaves : Called → List ℕ → Type 0
+  Leaves q l = (q ≡ called (finishOf w lent)) × ((l ≡ finishOf w lent .lent) × Good (q .writer))
 
   module _ (h : r ≡ 0 → ⊥) where
     pub refused-lent : lent ≡ finishOf w lent .lent
     unfolding finishOf
     refused-lent = rw (← e, ne-eqb r 0 h)
 
-    pub refused-answer : (q : Finished) → q ≡ record { reply = Refused r; places = replicate 3 noPlace; writer = w } → q ≡ finished (finishOf w lent)
+    pub refused-answer : (q : Called) → q ≡ record { reply = Refused r; writer = w } → q ≡ called (finishOf w lent)
     unfolding finishOf
     refused-answer q eq = rw (eq, ← e, ne-eqb r 0 h)
 
-    pub refused-good : (q : Finished) → q ≡ record { reply = Refused r; places = replicate 3 noPlace; writer = w } → Good (q .writer)
+    pub refused-good : (q : Called) → q ≡ record { reply = Refused r; writer = w } → Good (q .writer)
     refused-good q eq = rw eq g
 
   module _ (z : r ≡ 0) where
@@ -135,7 +135,7 @@ module _ (w : HpsWriter) (lent : List ℕ) (g : Good w) (r : ℕ) (e : r ≡ fin
     room = ltb-false (length lent) fileHeaderSize (passed-finish _ _ _ _ (sym e ∙ z) .no14)
 
     pub finish-accepted : (h l : List ℕ) (v : HpsWriter) → h ≡ headerOf w → length h ≡ fileHeaderSize → l ≡ handed (headerWrites h) ++ drop fileHeaderSize lent → v ≡ afterFinish w
-        → Leaves (record { reply = Accepted (w .stream .offset); places = record { offset = 0; length = 15 } ∷ record { offset = 16; length = 112 } ∷ record { offset = 15; length = 1 } ∷ []; writer = v }) l
+        → Leaves (record { reply = ThreeWrites (w .stream .offset) (record { offset = 0; length = 15 }) (record { offset = 16; length = 112 }) (record { offset = 15; length = 1 }); writer = v }) l
     unfolding finishOf
     finish-accepted h l v eh size el ev =
         rw (← e, z, ← eh, start-15 h size, rest-112 h size, mark-1 h size, handed-128 h size, ev, el) (refl, (refl, finish-good w (length lent) g (sym e ∙ z)))

@@ -5,21 +5,21 @@ use layout::Channel;
 use layout::DspFormat;
 use layout::limits::FILE_HEADER_SIZE;
 use puts::put_bytes;
+use writer::Called;
 use writer::ChannelBlock;
-use writer::Finished;
 use writer::HpsWriter;
 use writer::Place;
 use writer::Reply;
 ghost use mathlib.Core.Path.{_≡_};
 ghost use mathlib.Core.List.{_++_};
 ghost use Prim.Native.Nat.{_≤_, _<_, _%_};
-ghost use lib.ListN.{length, drop, replicate};
+ghost use lib.ListN.{length, drop};
 ghost use Rattle.writer.specs.Loading.{finishRefusal, filled, second, headerFor, headerWrites};
 ghost use Rattle.writer.specs.WritesAndCuttingRule.{handed};
-ghost use Rattle.writer.specs.Calls.{Good, noPlace, finishOf, finished};
+ghost use Rattle.writer.specs.Calls.{Good, finishOf, called};
 ghost use Rattle.layout.specs.Records.{fileHeaderSize};
 
-// The header's writes, and none.
+// The header's writes.
 const START: Place = Place {
     offset: 0,
     length: 15,
@@ -33,11 +33,6 @@ const REST: Place = Place {
 const MARK: Place = Place {
     offset: 15,
     length: 1,
-};
-
-const NOWHERE: Place = Place {
-    offset: 0,
-    length: 0,
 };
 
 // The first number due, 0 where none is.
@@ -122,20 +117,19 @@ fn hand_out(header: &[u8], lent: &mut [u8])
     put_bytes(lent, 127, &header[15..16]);
 }
 
-fn refused(w: HpsWriter, number: u32) -> Finished
-    ensures { λ q. ⌜ q ≡ record { reply = Reply.Refused number; places = replicate 3 noPlace; writer = w } ⌝ }
+fn refused(w: HpsWriter, number: u32) -> Called
+    ensures { λ q. ⌜ q ≡ record { reply = Reply.Refused number; writer = w } ⌝ }
 {
-    Finished {
+    Called {
         reply: Reply::Refused(number),
-        places: [NOWHERE; 3],
         writer: w,
     }
 }
 
 // Finish: byte 15 comes last, so that the header counts only once it is whole.
-pub fn finish(w: HpsWriter, lent: &mut [u8]) -> Finished
+pub fn finish(w: HpsWriter, lent: &mut [u8]) -> Called
     requires { ⌜ Good w ⌝ }
-    ensures { λ q. ⌜ q ≡ finished (finishOf w (now (lent .entry))) ⌝ }
+    ensures { λ q. ⌜ q ≡ called (finishOf w (now (lent .entry))) ⌝ }
     ensures { λ q. ⌜ now (lent .exit) ≡ finishOf w (now (lent .entry)) .lent ⌝ }
     ensures { λ q. ⌜ Good (q .writer) ⌝ }
 {
@@ -148,9 +142,8 @@ pub fn finish(w: HpsWriter, lent: &mut [u8]) -> Finished
     let right = stream.right;
     let bytes = header(w.setup.channels, stream.sum, left, right);
     hand_out(&bytes, lent);
-    Finished {
-        reply: Reply::Accepted(stream.offset),
-        places: [START, REST, MARK],
+    Called {
+        reply: Reply::ThreeWrites(stream.offset, START, REST, MARK),
         writer: HpsWriter {
             finished: true,
             ..w

@@ -11,7 +11,7 @@ use Rattle.layout.proofs.Cases.{by-cases}
 use Rattle.layout.specs.Choice.{pick}
 use Rattle.layout.specs.Puts.{putAt}
 use Rattle.writer.specs.Loading.{Answer, accepted, refused}
-use Rattle.kept_loading.specs.KeptLoading.{numberOf, noCall, onKept, givenAfter}
+use Rattle.kept_loading.specs.KeptLoading.{noCall, onKept, givenAfter}
 use Rattle.kept_loading.specs.declared.KeptCall.{KeptCall}
 use Rattle.kept_writer.specs.KeptWriter.{streamIn}
 use Rattle.writer.specs.Calls.{Outcome}
@@ -24,7 +24,7 @@ use Rattle.listing.specs.MarkingKey.{listingLines, linesFrom}
 use Rattle.listing.specs.Filling.{FilledIs, linesFitting}
 use Rattle.listing.specs.declared.Stage.{Stage}
 use Rattle.listing.specs.declared.listing.Line.{Line}
-use Rattle.hps.specs.Exported.{lengthAfter, openNumber, keptAfter, onRecord, BlockLent, blockLent, addressesAfter, pushNumber}
+use Rattle.hps.specs.Exported.{numberOf, lengthAfter, openNumber, keptAfter, onRecord, BlockLent, blockLent, addressesAfter, pushNumber}
 
 -- ---- The estimate
 

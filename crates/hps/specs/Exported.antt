@@ -11,12 +11,17 @@ use Rattle.writer.specs.Loading.{Answer, accepted, refused, pushArgs}
 use Rattle.writer.specs.Calls.{Outcome, cueOf, pushOf}
 use Rattle.kept_sides.specs.KeptSides.{sideIn, kindOf}
 use Rattle.kept_writer.specs.KeptWriter.{streamIn, writerIn}
-use Rattle.kept_loading.specs.KeptLoading.{numberOf, onKept}
+use Rattle.kept_loading.specs.KeptLoading.{callOf, onKept}
 use Rattle.reader.specs.OpeningAndReading.{Opened, BlockAnswer, Remaining}
 use Rattle.reader.specs.declared.HpsReader.{HpsReader}
 use Rattle.kept_reader.specs.KeptReader.{openedSize, openedBytes}
 
 -- ---- The estimate
+
+-- The refusal's number, 0 where the call is accepted.
+abbrev pub numberOf : Answer → ℕ
+numberOf (refused n) = n
+numberOf (accepted m) = 0
 
 -- A lent number after the call: what an accepted call gives; a refused one leaves it.
 abbrev pub lengthAfter : (before : ℕ) → Answer → ℕ
@@ -95,4 +100,4 @@ pushOn kept ch l ld r rd last lent = pushOf (writerIn kept) (pushArgs ch (sideIn
 
 -- Its number: 254 where the bytes hold no record, then 251 where a side is too short, then push's own.
 abbrev pub pushNumber : (kept : List ℕ) (short : Bool) → Outcome → ℕ
-pushNumber kept short o = pick (eqb (streamIn kept .slot) 0) 254 (pick short 251 (numberOf (o .answer)))
+pushNumber kept short o = pick (eqb (streamIn kept .slot) 0) 254 (pick short 251 (callOf o .number))

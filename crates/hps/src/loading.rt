@@ -17,8 +17,8 @@ ghost use Rattle.writer.specs.Estimate.{estimateOf};
 ghost use Rattle.writer.specs.Calls.{beginOf, finishOf};
 ghost use Rattle.kept_sides.specs.KeptSides.{sidesShort};
 ghost use Rattle.kept_writer.specs.KeptWriter.{modeOf, writerIn};
-ghost use Rattle.kept_loading.specs.KeptLoading.{numberOf, givenOf, callOf, whereRoom, finishedKept, givenAfter, bytesBegun, bytesCued, bytesPushed, bytesFinished};
-ghost use Rattle.hps.specs.Exported.{cueOn, cueNumber, pushOn, pushNumber, lengthAfter};
+ghost use Rattle.kept_loading.specs.KeptLoading.{callOf, whereRoom, onKept, givenAfter, bytesBegun, bytesCued, bytesPushed, bytesFinished};
+ghost use Rattle.hps.specs.Exported.{numberOf, cueOn, cueNumber, pushOn, pushNumber, lengthAfter};
 
 // Begin: keeps the writer's record, and gives the write's offset and length. The mode is 0 Disabled, 1 Enabled, 2 Auto.
 #[no_mangle]
@@ -102,8 +102,8 @@ pub extern "C" fn hps_push(
 #[no_mangle]
 pub extern "C" fn hps_finish(kept: &mut [u8], lent: &mut [u8], finished: &mut usize) -> u32
     ensures { λ r. ⌜ (let o = finishOf (writerIn (now (kept .entry))) (now (lent .entry)) in
-        (r ≡ finishedKept (now (kept .entry)) o .number)
-        × (now (finished .exit) ≡ givenAfter r (now (finished .entry)) (givenOf (o .answer)))
+        (r ≡ onKept (now (kept .entry)) o .number)
+        × (now (finished .exit) ≡ givenAfter r (now (finished .entry)) (callOf o .length))
         × (now (lent .exit) ≡ givenAfter r (now (lent .entry)) (o .lent))
         × (now (kept .exit) ≡ givenAfter r (now (kept .entry)) (bytesFinished (now (kept .entry))))
         × (writerIn (now (kept .exit)) ≡ givenAfter r (writerIn (now (kept .entry))) (o .writer))) ⌝ }

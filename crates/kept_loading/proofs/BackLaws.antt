@@ -10,7 +10,7 @@ use lib.IntN.{ℤ, pos}
 use mir.Syntax.{w16}
 use mir.Val.{SFits}
 use denote.Array.{each}
-use borrow.Author.Tests.{ne-eqb, eqb-true, le-leb}
+use borrow.Author.Tests.{ne-eqb, le-leb}
 use Rattle.layout.specs.Choice.{_and_}
 use Rattle.layout.specs.Lists.{All, concat}
 use Rattle.layout.specs.Puts.{putAt}
@@ -21,9 +21,8 @@ use Rattle.layout.proofs.AtLaws.{At, at-left, at-right, at-move, at-same, at-in
 use Rattle.puts.proofs.PutLaws.{putAt-length}
 use Rattle.writer.specs.Typed.{TypedBlock}
 use Rattle.writer.specs.Loading.{noBlock, beginRefusal, finishRefusal}
-use Rattle.writer.specs.Calls.{replyOf, emptyOf, beginOf, afterFinish, finishOf, Good}
+use Rattle.writer.specs.Calls.{emptyOf, beginOf, afterFinish, finishOf, Good}
 use Rattle.writer.proofs.GoodLaws.{empty-good, finish-good}
-use Rattle.writer.specs.declared.Reply.the-variants.{Accepted}
 use Rattle.writer.specs.declared.ChannelBlock.{ChannelBlock}
 use Rattle.writer.specs.declared.Cue.{Cue}
 use Rattle.writer.specs.declared.Looping.{Looping}
@@ -43,7 +42,6 @@ use Rattle.kept_puts.proofs.SameLaws.{same-before, same-after}
 use Rattle.kept_puts.proofs.ThereLaws.{put-there}
 use Rattle.kept_record.specs.KeptRecord.{sideBytes, recordBytes}
 use Rattle.kept_record.proofs.RecordLaws.{side-length}
-use Rattle.kept_loading.proofs.CallLaws.{apart-replies}
 use Rattle.kept_loading.proofs.AfterLaws.{holds, good-sensible}
 use Rattle.layout.specs.Refusals.{slotLimit}
 
@@ -234,12 +232,11 @@ finish-back k h lent z =
     (mark-back k (there .room) ∙ ap marked (sym (there .is)))
     (same-after k 84 (be32 1) (omega (arith, there .room)) cuesAt loaderSize (omega arith) .byte)
 
-module _ (k : List ℕ) (lent : List ℕ) (n : ℕ) where
-  pub finish-after : (streamIn k .slot ≡ 0 → ⊥) → replyOf (finishOf (writerIn k) lent .answer) ≡ Accepted n → writerIn (putAt k 84 (be32 1)) ≡ finishOf (writerIn k) lent .writer
+module _ (k : List ℕ) (lent : List ℕ) where
+  pub finish-after : (streamIn k .slot ≡ 0 → ⊥) → finishRefusal (streamIn k .finished) (streamIn k .blocks) (streamIn k .last) (length lent) ≡ 0
+      → writerIn (putAt k 84 (be32 1)) ≡ finishOf (writerIn k) lent .writer
   unfolding finishOf
-  finish-after h e =
-      by-cases (eqb (finishRefusal (streamIn k .finished) (streamIn k .blocks) (streamIn k .last) (length lent)) 0)
-      (λ q. rw q (finish-back k h (length lent) (eqb-true _ 0 q))) (λ q. apart-replies n _ (sym (rw q at e)))
+  finish-after h z = rw z (finish-back k h (length lent) z)
 
 -- ---- After begin
 
@@ -280,17 +277,16 @@ none-fits =
       short = omega arith;
     }
 
-module _ (k : List ℕ) (slot ch : ℕ) (mode : Looping) (lent : List ℕ) (n : ℕ) where
+module _ (k : List ℕ) (slot ch : ℕ) (mode : Looping) (lent : List ℕ) where
   empty-back : loaderSize ≤ length k → Long ch → beginRefusal slot ch (length lent) ≡ 0 → writerIn (putAt k 0 (recordBytes (fieldsOf (emptyOf slot ch mode)))) ≡ emptyOf slot ch mode
   unfolding tableIn cuesFrom
   empty-back room f z =
       whole-back k room (fieldsOf (emptyOf slot ch mode)) (emptyOf slot ch mode .table .cues) (empty-good slot ch (length lent) mode z) f none-fits none-fits
 
-  pub begin-after : loaderSize ≤ length k → Long ch → replyOf (beginOf slot ch mode lent .answer) ≡ Accepted n
+  pub begin-after : loaderSize ≤ length k → Long ch → beginRefusal slot ch (length lent) ≡ 0
       → writerIn (putAt k 0 (recordBytes (fieldsOf (beginOf slot ch mode lent .writer)))) ≡ beginOf slot ch mode lent .writer
   unfolding beginOf
-  begin-after room f e =
-      by-cases (eqb (beginRefusal slot ch (length lent)) 0) (λ q. rw q (empty-back room f (eqb-true _ 0 q))) (λ q. apart-replies n _ (sym (rw q at e)))
+  begin-after room f z = rw z (empty-back room f z)
 
   pub begin-sixteen : (length (beginOf slot ch mode lent .writer .stream .left .coefficients) ≡ 16) × (length (beginOf slot ch mode lent .writer .stream .right .coefficients) ≡ 16)
   unfolding beginOf

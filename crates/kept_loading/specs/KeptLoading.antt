@@ -6,27 +6,29 @@ use lib.Dec.{ltb, eqb}
 use Rattle.layout.specs.Choice.{pick}
 use Rattle.layout.specs.Puts.{putAt}
 use Rattle.layout.specs.Records.{be32}
-use Rattle.writer.specs.Loading.{Answer, accepted, refused}
-use Rattle.writer.specs.Calls.{Outcome, firstPlace}
+use Rattle.writer.specs.Calls.{Outcome}
 use Rattle.kept_sides.specs.Fields.{fieldsOf}
 use Rattle.kept_writer.specs.KeptWriter.{streamIn}
 use Rattle.kept_record.specs.KeptRecord.{recordBytes, pushedBytes}
 use Rattle.kept_table.specs.KeptTable.{tablePut}
+use Rattle.writer.specs.declared.Reply.{Reply}
+use Rattle.writer.specs.declared.Reply.the-variants.{Refused, NoWrite, OneWrite, ThreeWrites}
 use Rattle.kept_loading.specs.declared.KeptCall.{KeptCall}
 use Rattle.kept_sides.specs.KeptSides.{loaderSize}
-
--- The refusal's number, 0 where the call is accepted.
-abbrev pub numberOf : Answer → ℕ
-numberOf (refused n) = n
-numberOf (accepted m) = 0
-
--- The call's number, and the place of the write that it hands out.
-abbrev pub callOf : Outcome → KeptCall
-callOf o = record { number = numberOf (o .answer); offset = firstPlace (o .places) .offset; length = firstPlace (o .places) .length }
 
 -- A call that gives this number and nothing else.
 abbrev pub noCall : (number : ℕ) → KeptCall
 noCall n = record { number = n; offset = 0; length = 0 }
+
+-- What a reply comes to: the refusal's number, 0 where the call is accepted; the place of its one write, or the finished length.
+abbrev pub callIn : Reply → KeptCall
+callIn (Refused n) = noCall n
+callIn NoWrite = noCall 0
+callIn (OneWrite p) = record { number = 0; offset = p .offset; length = p .length }
+callIn (ThreeWrites n p q r) = record { number = 0; offset = 0; length = n }
+
+abbrev pub callOf : Outcome → KeptCall
+callOf o = callIn (o .reply)
 
 -- Begin: 252 where the bytes are too few for a record, then 253 where there is no such mode.
 abbrev pub whereRoom : List ℕ → (mode : ℕ) → KeptCall → KeptCall
@@ -35,16 +37,6 @@ whereRoom kept mode q = pick (ltb (length kept) loaderSize) (noCall 252) (pick (
 -- A call on the record that bytes hold: 254 where they hold none.
 abbrev pub onKept : List ℕ → Outcome → KeptCall
 onKept kept o = pick (eqb (streamIn kept .slot) 0) (noCall 254) (callOf o)
-
--- What an accepted call gives beside its writes: finish the finished length.
-abbrev pub givenOf : Answer → ℕ
-givenOf (refused n) = 0
-givenOf (accepted m) = m
-
--- Finish on the record that bytes hold.
-abbrev pub finishedKept : List ℕ → Outcome → KeptCall
-finishedKept kept o =
-    pick (eqb (streamIn kept .slot) 0) (noCall 254) (record { number = numberOf (o .answer); offset = 0; length = givenOf (o .answer) })
 
 -- What is lent after a call with this number, and the record that lent bytes hold: what the call gives where it is accepted, else as it was.
 abbrev pub givenAfter : {A : Type 0} → (number : ℕ) → (before given : A) → A

@@ -18,7 +18,7 @@ use writer::begin;
 ghost use mathlib.Core.Path.{_≡_};
 ghost use Rattle.writer.specs.Calls.{beginOf, cueOf, finishOf};
 ghost use Rattle.kept_writer.specs.KeptWriter.{modeOf, writerIn};
-ghost use Rattle.kept_loading.specs.KeptLoading.{noCall, callOf, whereRoom, onKept, finishedKept, givenAfter, bytesBegun, bytesCued, bytesFinished};
+ghost use Rattle.kept_loading.specs.KeptLoading.{noCall, callIn, callOf, whereRoom, onKept, givenAfter, bytesBegun, bytesCued, bytesFinished};
 
 // The number of a call, 0 where it is accepted; the place of the write that it hands out, or what else it gives.
 pub struct KeptCall {
@@ -35,6 +35,25 @@ pub fn refused(number: u32) -> KeptCall
         number,
         offset: 0,
         length: 0,
+    }
+}
+
+fn call_of(reply: Reply) -> KeptCall
+    ensures { λ q. ⌜ q ≡ callIn reply ⌝ }
+{
+    match reply {
+        Reply::Refused(number) => refused(number),
+        Reply::NoWrite => refused(0),
+        Reply::OneWrite(place) => KeptCall {
+            number: 0,
+            offset: place.offset,
+            length: place.length,
+        },
+        Reply::ThreeWrites(finished, _, _, _) => KeptCall {
+            number: 0,
+            offset: 0,
+            length: finished,
+        },
     }
 }
 
@@ -59,23 +78,16 @@ pub fn begin_kept(
     }
     let call = begin(slot, channels, mode_of(mode), lent);
     let reply = call.reply;
-    let place = call.place;
     let w = call.writer;
-    match reply {
-        Reply::Refused(number) => refused(number),
-        Reply::Accepted(_) => {
-            let s = fields_of(w);
-            let left = s.left;
-            let right = s.right;
-            put_numbers(kept, s);
-            put_sides(kept, left, right);
-            KeptCall {
-                number: 0,
-                offset: place.offset,
-                length: place.length,
-            }
-        }
+    let answer = call_of(reply);
+    if answer.number == 0 {
+        let s = fields_of(w);
+        let left = s.left;
+        let right = s.right;
+        put_numbers(kept, s);
+        put_sides(kept, left, right);
     }
+    answer
 }
 
 // Cue: it hands out no write.
@@ -91,19 +103,17 @@ pub fn cue_kept(kept: &mut [u8], c: Cue) -> KeptCall
     let call = cue(w, c);
     let reply = call.reply;
     let after = call.writer;
-    match reply {
-        Reply::Refused(number) => refused(number),
-        Reply::Accepted(_) => {
-            let cues = after.table.cues;
-            put_table(kept, cues, after.table.count);
-            refused(0)
-        }
+    let answer = call_of(reply);
+    if answer.number == 0 {
+        let cues = after.table.cues;
+        put_table(kept, cues, after.table.count);
     }
+    answer
 }
 
 // Finish: gives the finished length; its three writes' bytes lie in the lent buffer one after the other.
 pub fn finish_kept(kept: &mut [u8], lent: &mut [u8]) -> KeptCall
-    ensures { λ q. ⌜ q ≡ finishedKept (now (kept .entry)) (finishOf (writerIn (now (kept .entry))) (now (lent .entry))) ⌝ }
+    ensures { λ q. ⌜ q ≡ onKept (now (kept .entry)) (finishOf (writerIn (now (kept .entry))) (now (lent .entry))) ⌝ }
     ensures { λ q. ⌜ now (lent .exit) ≡ givenAfter (q .number) (now (lent .entry)) (finishOf (writerIn (now (kept .entry))) (now (lent .entry)) .lent) ⌝ }
     ensures { λ q. ⌜ now (kept .exit) ≡ givenAfter (q .number) (now (kept .entry)) (bytesFinished (now (kept .entry))) ⌝ }
     ensures { λ q. ⌜ writerIn (now (kept .exit)) ≡ givenAfter (q .number) (writerIn (now (kept .entry))) (finishOf (writerIn (now (kept .entry))) (now (lent .entry)) .writer) ⌝ }
@@ -114,15 +124,9 @@ pub fn finish_kept(kept: &mut [u8], lent: &mut [u8]) -> KeptCall
     }
     let call = finish(w, lent);
     let reply = call.reply;
-    match reply {
-        Reply::Refused(number) => refused(number),
-        Reply::Accepted(n) => {
-            put_finished(kept);
-            KeptCall {
-                number: 0,
-                offset: 0,
-                length: n,
-            }
-        }
+    let answer = call_of(reply);
+    if answer.number == 0 {
+        put_finished(kept);
     }
+    answer
 }

@@ -19,7 +19,7 @@ use Rattle.layout.specs.declared.FrameContext.{FrameContext}
 use Rattle.layout.proofs.Cases.{or-false}
 use Rattle.writer.specs.Loading.{Side, Call, cue, push, finish, accepted, rangeLength, lengthOf, lexLt, before, has, insert, points, pointsOf, bytesOf, sameZ, dataSize, stateDue, rateDue, lengthDue, dataDue, coefficientsDue, earlyDue, roomDue, pushOrder, filled, second, headerFor}
 use Rattle.writer.specs.Typed.{TypedBlock, TypedSide, Typed}
-use Rattle.writer.specs.Calls.{beginOf}
+use Rattle.writer.specs.Calls.{beginOf, answerOf}
 use Rattle.writer.specs.declared.Looping.the-variants.{Auto}
 use Rattle.writer.specs.declared.ChannelBlock.{ChannelBlock}
 use Rattle.power_cut.specs.LoadingBook.{Book, begun, baseOf, endOfBlocks, lastPushed, takes, enters, bookRun, loopBlock}
@@ -118,7 +118,7 @@ calls-of (c ∷ cs) h = let q = or-false (noCall c) (any noCall cs) h in more {x
 
 -- What computes of a list on a slot of this length: begin is accepted, its calls are typed, and what its book says of the file and to the estimate.
 record Computes (n ch : ℕ) (cs : List Call) (bytes lengths : List ℕ) (written : ℕ) : Type 0 where
-  begins : begin n ch Auto (9 ∷ []) .answer ≡ accepted 0
+  begins : answerOf (begin n ch Auto (9 ∷ [])) ≡ accepted 0
   typed : any noCall cs ≡ false
   done : bookRun (begun n ch Auto) cs .finished ≡ true
   file : fileBytes (bookRun (begun n ch Auto) cs) ≡ bytes

@@ -29,6 +29,7 @@ use Rattle.power_cut.specs.LoadingBook.{Book, begun, numberDue, bookRun, bookAn
 use Rattle.power_cut.specs.FinishedFile.{fileBytes}
 use Rattle.power_cut.specs.PowerCut.{begin, answersOf, allWrites, nthCue}
 use Rattle.marked.specs.RecordedFiles as files
+use Rattle.writer.specs.Calls.{answerOf}
 
 -- A case: the numbers that the definitions give, and those of document 01.
 pub record Case : Type 0 where
@@ -305,7 +306,7 @@ table =
     -- "Bytes for n addresses: ADPCM (n+1)/2 rounded down, PCM16 2n, PCM8 n."; "Samples for n addresses: n in PCM"
     ∷ case (addressToByteUp Adpcm 3 ∷ addressToByteUp Pcm16 3 ∷ addressToByteUp Pcm8 3 ∷ numSamples Pcm16 3 ∷ numSamples Pcm8 17 ∷ numSamples Adpcm 17 ∷ []) (2 ∷ 6 ∷ 3 ∷ 3 ∷ 17 ∷ 14 ∷ [])
     -- "Order: 3, 7, 14."
-    ∷ case (map answer (begin 191 3 Auto [] .answer ∷ begin 191 1 Auto [] .answer ∷ begin 16777217 2 Auto [] .answer ∷ begin 192 2 Auto [] .answer ∷ begin 192 2 Auto (9 ∷ []) .answer ∷ begin 16777216 2 Auto (9 ∷ []) .answer ∷ [])) (stop 3 ∷ stop 7 ∷ stop 7 ∷ stop 14 ∷ 0 ∷ 0 ∷ [])
+    ∷ case (map answer (answerOf (begin 191 3 Auto []) ∷ answerOf (begin 191 1 Auto []) ∷ answerOf (begin 16777217 2 Auto []) ∷ answerOf (begin 192 2 Auto []) ∷ answerOf (begin 192 2 Auto (9 ∷ [])) ∷ answerOf (begin 16777216 2 Auto (9 ∷ [])) ∷ [])) (stop 3 ∷ stop 7 ∷ stop 7 ∷ stop 14 ∷ 0 ∷ 0 ∷ [])
     -- the worked example: its bytes, by the book and by the program's writes on a slot of 300 bytes; HEAD, BLCK, LOOP and CUEP
     ∷ case (fileBytes (ended worked)) file
     ∷ case (carry (replicate 300 170) (allWrites (begin 300 1 Auto (9 ∷ [])) worked)) (file ++ replicate 76 170)

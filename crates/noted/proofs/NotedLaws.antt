@@ -13,11 +13,8 @@ use Rattle.layout.specs.Puts.{putAt}
 use Rattle.layout.proofs.FieldLaws.{failed}
 use Rattle.puts.proofs.PutLaws.{putAt-in, putAt-length, putAt-none, putAt-next}
 use Rattle.writer.specs.WritesAndCuttingRule.{Write, write, handed, writesIn, mostWrites}
-use Rattle.writer.specs.Calls.{noPlace, whereAccepted}
-use Rattle.writer.specs.declared.Reply.{Reply}
-use Rattle.writer.specs.declared.Reply.the-variants.{Refused, Accepted}
 use Rattle.writer.specs.declared.Place.{Place}
-use Rattle.noted.specs.Noted.{noneNoted, notedIn, sizes, Listed, Room, Notes}
+use Rattle.noted.specs.Noted.{noPlace, noneNoted, notedIn, sizes, Listed, Room, Notes}
 use Rattle.noted.specs.declared.Noted.{Noted}
 
 -- A test of the room that fails.
@@ -204,12 +201,12 @@ module _ {j : Noted} {kept lent : List ℕ} {p q s : Place} (r : Room j kept len
       let c = f₃ few (rw drop-drop at (room-then (s ∷ []) m b r₁)) in
       notes-then n (r .handed) a (notes-then m (r₁ .handed) b (rw drop-drop c))
 
--- ---- A refused call's writes
+-- ---- A reply's writes
 
-module _ {j : Noted} {kept lent : List ℕ} {reply : Reply} {n : ℕ} (ps : List Place) where
-  pub none-refused : reply ≡ Refused n → Listed j kept → Notes j kept lent (whereAccepted reply ps) j kept
-  none-refused e l = rw e (notes-none l)
+module _ {j : Noted} {kept lent : List ℕ} {rs : List Place} where
+  pub none-noted : rs ≡ [] → Listed j kept → Notes j kept lent rs j kept
+  none-noted e l = rw e (notes-none l)
 
-  pub all-accepted : {q : Noted} {after : List ℕ} → reply ≡ Accepted n → (Room j kept lent ps → Notes j kept lent ps q after)
-      → Room j kept lent (whereAccepted reply ps) → Notes j kept lent (whereAccepted reply ps) q after
-  all-accepted e h r = rw e (h (rw e at r))
+  pub all-noted : {ps : List Place} {q : Noted} {after : List ℕ} → rs ≡ ps → (Room j kept lent ps → Notes j kept lent ps q after)
+      → Room j kept lent rs → Notes j kept lent rs q after
+  all-noted e h r = rw e (h (rw e at r))

@@ -6,9 +6,12 @@ use lib.ListN.{length, take, replicate}
 use Rattle.layout.specs.Lists.{sum}
 use Rattle.layout.specs.Puts.{putAt}
 use Rattle.writer.specs.WritesAndCuttingRule.{Write, handed, writesIn, mostWrites}
-use Rattle.writer.specs.Calls.{noPlace}
 use Rattle.writer.specs.declared.Place.{Place}
 use Rattle.noted.specs.declared.Noted.{Noted}
+
+-- A blank of the list.
+abbrev pub noPlace : Place
+noPlace = record { offset = 0; length = 0 }
 
 -- No write.
 abbrev pub noneNoted : Noted

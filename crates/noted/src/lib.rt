@@ -8,7 +8,7 @@ ghost use mathlib.Core.Path.{_≡_};
 ghost use mathlib.Core.List.{[], _∷_};
 ghost use Prim.Native.Nat.{_≤_};
 ghost use lib.ListN.{length, drop};
-ghost use Rattle.writer.specs.Calls.{whereAccepted};
+ghost use Rattle.writer.specs.Calls.{placesIn};
 ghost use Rattle.noted.specs.Noted.{noneNoted, Listed, Room, Notes};
 
 // As many writes as a loading hands out.
@@ -33,7 +33,7 @@ pub fn none() -> Noted
 }
 
 // A write more, whose bytes lie in the lent buffer from here on. Where there is no room, nothing is noted.
-fn note(j: Noted, place: Place, lent: &[u8], from: usize, kept: &mut [u8]) -> Noted
+fn note_place(j: Noted, place: Place, lent: &[u8], from: usize, kept: &mut [u8]) -> Noted
     requires { ⌜ Listed j (now kept) ⌝ }
     ensures { λ q. ⌜ (from ≤ length (now (lent .entry)) → Room j (now (kept .entry)) (drop from (now (lent .entry))) (place ∷ []) → Notes j (now (kept .entry)) (drop from (now (lent .entry))) (place ∷ []) q (now (kept .exit))) ⌝ }
     ensures { λ q. ⌜ Listed q (now (kept .exit)) ⌝ }
@@ -66,39 +66,22 @@ fn note_all(j: Noted, start: Place, rest: Place, mark: Place, lent: &[u8], kept:
 {
     if inside(lent.len(), start.length, rest.length) {
         let end = start.length + rest.length;
-        let one = note(j, start, lent, 0, kept);
-        let two = note(one, rest, lent, start.length, kept);
-        return note(two, mark, lent, end, kept);
+        let one = note_place(j, start, lent, 0, kept);
+        let two = note_place(one, rest, lent, start.length, kept);
+        return note_place(two, mark, lent, end, kept);
     }
     j
 }
 
-// The write of an accepted begin or push; a refused one hands out none.
-pub fn note_one(j: Noted, reply: Reply, place: Place, lent: &[u8], kept: &mut [u8]) -> Noted
+// The writes that a call's reply hands out.
+pub fn note(j: Noted, reply: Reply, lent: &[u8], kept: &mut [u8]) -> Noted
     requires { ⌜ Listed j (now kept) ⌝ }
-    ensures { λ q. ⌜ (Room j (now (kept .entry)) (now (lent .entry)) (whereAccepted reply (place ∷ [])) → Notes j (now (kept .entry)) (now (lent .entry)) (whereAccepted reply (place ∷ [])) q (now (kept .exit))) ⌝ }
+    ensures { λ q. ⌜ (Room j (now (kept .entry)) (now (lent .entry)) (placesIn reply) → Notes j (now (kept .entry)) (now (lent .entry)) (placesIn reply) q (now (kept .exit))) ⌝ }
 {
     match reply {
         Reply::Refused(_) => j,
-        Reply::Accepted(_) => note(j, place, lent, 0, kept),
-    }
-}
-
-// The three writes of an accepted finish.
-pub fn note_three(
-    j: Noted,
-    reply: Reply,
-    start: Place,
-    rest: Place,
-    mark: Place,
-    lent: &[u8],
-    kept: &mut [u8],
-) -> Noted
-    requires { ⌜ Listed j (now kept) ⌝ }
-    ensures { λ q. ⌜ (Room j (now (kept .entry)) (now (lent .entry)) (whereAccepted reply (start ∷ rest ∷ mark ∷ [])) → Notes j (now (kept .entry)) (now (lent .entry)) (whereAccepted reply (start ∷ rest ∷ mark ∷ [])) q (now (kept .exit))) ⌝ }
-{
-    match reply {
-        Reply::Refused(_) => j,
-        Reply::Accepted(_) => note_all(j, start, rest, mark, lent, kept),
+        Reply::NoWrite => j,
+        Reply::OneWrite(place) => note_place(j, place, lent, 0, kept),
+        Reply::ThreeWrites(_, start, rest, mark) => note_all(j, start, rest, mark, lent, kept),
     }
 }

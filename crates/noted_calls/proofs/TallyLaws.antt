@@ -4,22 +4,19 @@ use mathlib.Core.Path.{_≡_, refl, ap, sym, _∙_}
 use mathlib.Core.Bool.{true, false}
 use mathlib.Core.List.{List, [], _∷_, _++_, map}
 use native.Mathlib.Omega.{arith}
-use lib.ListN.{length, take, drop, getD, replicate, length-append, length-take, length-map, length-replicate}
+use lib.ListN.{length, take, drop, replicate, length-append, length-take, length-map, length-replicate}
 use lib.Dec.{eqb}
 use borrow.Author.Tests.{ltb-false, leb-false, eqb-true}
 use Rattle.layout.specs.Lists.{sum}
 use Rattle.layout.proofs.Cases.{by-cases, apart}
 use Rattle.writer.specs.WritesAndCuttingRule.{Write, write, placeOf, handed, writesIn, mostWrites}
-use Rattle.writer.specs.Loading.{Push, refused, accepted, beginRefusal, beginWrites, pushRefusal, finishRefusal, blockSize, headerWrites}
-use Rattle.writer.specs.Calls.{outcome, writes, called, finished, handedOut, whereAccepted, blank, emptyOf, beginOf, takenOf, standingIn, nextFor, pushBytes, afterPush, pushOf, headerOf, afterFinish, finishOf, Good}
-use Rattle.writer.specs.declared.Place.{Place}
+use Rattle.writer.specs.Loading.{Push, refused, accepted, beginRefusal, beginWrite, pushRefusal, finishRefusal, blockSize, startWrite, restWrite, markWrite}
+use Rattle.writer.specs.Calls.{Handed, handedWrites, replyFor, placesIn, Outcome, outcome, writes, called, blank, emptyOf, beginOf, takenOf, standingIn, nextFor, pushBytes, afterPush, pushOf, headerOf, afterFinish, finishOf, Good}
 use Rattle.writer.specs.declared.Looping.{Looping}
 use Rattle.writer.specs.declared.HpsWriter.{HpsWriter}
 use Rattle.writer.specs.declared.Called.{Called}
-use Rattle.writer.specs.declared.Finished.{Finished}
 use Rattle.writer.proofs.DueLaws.{passed, passed-finish}
-use Rattle.writer.proofs.WriteLaws.{bytes-length}
-use Rattle.writer.proofs.ServerLaws.{begin-place, push-place}
+use Rattle.writer.proofs.WriteLaws.{bytes-length, places-are}
 use Rattle.noted.specs.Noted.{sizes, notedIn, noneNoted, Listed, Room, Notes}
 use Rattle.noted.specs.declared.Noted.{Noted}
 use Rattle.noted.proofs.NotedLaws.{none-listed, notes-long}
@@ -51,44 +48,71 @@ some-room lent ws few space =
 
 -- ---- Any call
 
-module _ (n : ℕ) (w : HpsWriter) (lent : List ℕ) (next : HpsWriter) (m : ℕ) (ws : List Write) (j : Noted) (kept : List ℕ) where
+places-length : (h : Handed) → (length (placesIn (replyFor h)) ≡ length (handedWrites h)) × (sizes (placesIn (replyFor h)) ≡ length (handed (handedWrites h)))
+places-length h = let e = places-are h in (rw e (length-map (handedWrites h) placeOf), rw e (sizes-are (handedWrites h)))
+
+module _ (n : ℕ) (w : HpsWriter) (lent : List ℕ) (next : HpsWriter) (h : Handed) (j : Noted) (kept : List ℕ) where
+  abbrev ws : List Write
+  ws = handedWrites h
+
   -- What an accepted call must leave room for.
   abbrev Fits : Type 0
   Fits = eqb n 0 ≡ true → (j .count + length ws ≤ mostWrites) × (j .total + length (handed ws) ≤ length kept)
 
-  room-for : Listed j kept → Fits → Room j kept (outcome n w lent next m ws .lent) (outcome n w lent next m ws .places)
-  room-for l h = by-cases (eqb n 0) (λ q. rw q (some-room lent ws (h q .0) (h q .1))) (λ q. rw q (none-room l))
+  room-for : Listed j kept → Fits → Room j kept (outcome n w lent next h .lent) (placesIn (outcome n w lent next h .reply))
+  room-for l f =
+      by-cases (eqb n 0) (λ q. rw (q, places-are h) (some-room lent ws (f q .0) (f q .1))) (λ q. rw q (none-room l))
 
   -- What it must leave counted.
   abbrev Counts : Type 0
-  Counts = eqb n 0 ≡ true → (next .setup .slot ≤ keyLimit) × (next .finished ≡ false → (j .count + length ws ≡ suc (next .stream .blocks)) × (j .total + length (handed ws) + 127 ≡ next .stream .offset))
+  Counts = eqb n 0 ≡ true
+      → (next .setup .slot ≤ keyLimit)
+      × (next .finished ≡ false → (j .count + length ws ≡ suc (next .stream .blocks)) × (j .total + length (handed ws) + 127 ≡ next .stream .offset))
 
-  tally-after : {q : Noted} {after : List ℕ} → Tally j w kept → Counts → Notes j kept (outcome n w lent next m ws .lent) (outcome n w lent next m ws .places) q after → Tally q (outcome n w lent next m ws .writer) after
+  tally-after : {q : Noted} {after : List ℕ} → Tally j w kept → Counts → Notes j kept (outcome n w lent next h .lent) (placesIn (outcome n w lent next h .reply)) q after
+      → Tally q (outcome n w lent next h .writer) after
   unfolding sizes sum
-  tally-after {q} {after} t c h =
-      let long = notes-long h in
+  tally-after {q} {after} t c g =
+      let long = notes-long g in
       let room = t .room in
+      let many = places-length h in
       by-cases (eqb n 0)
       (λ e.
-      let k : q .count ≡ j .count + length (map placeOf ws) = rw e at (h .count) in
-      let b : q .total ≡ j .total + sizes (map placeOf ws) = rw e at (h .total) in
+      let k : q .count ≡ j .count + length (placesIn (replyFor h)) = rw e at (g .count) in
+      let b : q .total ≡ j .total + sizes (placesIn (replyFor h)) = rw e at (g .total) in
       rw e (record {
-        listed = h .listed;
+        listed = g .listed;
         room = omega arith;
         small = c e .0;
-        many = λ f. omega (arith, k, c e .1 f .0, length-map ws placeOf);
-        bytes = λ f. omega (arith, b, c e .1 f .1, sizes-are ws);
+        many = λ f. omega (arith, k, c e .1 f .0, many .0);
+        bytes = λ f. omega (arith, b, c e .1 f .1, many .1);
       }))
       (λ e.
-      let k : q .count ≡ j .count + 0 = rw e at (h .count) in
-      let b : q .total ≡ j .total + 0 = rw e at (h .total) in
+      let k : q .count ≡ j .count + 0 = rw e at (g .count) in
+      let b : q .total ≡ j .total + 0 = rw e at (g .total) in
       rw e (record {
-        listed = h .listed;
+        listed = g .listed;
         room = omega arith;
         small = t .small;
         many = λ f. omega (arith, k, t .many f);
         bytes = λ f. omega (arith, b, t .bytes f);
       }))
+
+-- what a call is noted as, by its outcome
+pub call-made : (o : Outcome) {call : Called} {l : List ℕ} {j : Noted} {kept : List ℕ} → call ≡ called o → l ≡ o .lent → {q : Noted} {after : List ℕ} → Good (call .writer)
+    → (Notes j kept (o .lent) (placesIn (o .reply)) q after → Tally q (o .writer) after) → Notes j kept l (placesIn (call .reply)) q after
+    → MadeBy o j kept (record { writer = call .writer; reply = call .reply; noted = q }) after
+unfolding writes
+call-made o {j = j} {kept = kept} e el {q} {after} good t h =
+    let k : Notes j kept (o .lent) (placesIn (o .reply)) q after = rw (e, el) at h in
+    record {
+      writer = ap (λ (c : Called). c .writer) e;
+      reply = ap (λ (c : Called). c .reply) e;
+      good = good;
+      tally = rw e (t k);
+      is = k .is;
+      put = k .put;
+    }
 
 -- ---- Push
 
@@ -114,7 +138,7 @@ module _ (w : HpsWriter) (p : Push) (lent : List ℕ) {j : Noted} {kept : List �
       let f = passed _ _ p _ (eqb-true _ 0 q) in
       by-cases (w .finished) (λ d. apart (sym (g .done d) ∙ f .no26)) (λ d. d)
 
-  push-fits : Fits n w lent (afterPush w p) 0 (block ∷ []) j kept
+  push-fits : Fits n w lent (afterPush w p) (Handed.one block) j kept
   unfolding n block
   push-fits q =
       let f = passed _ _ p _ (eqb-true _ 0 q) in
@@ -123,28 +147,19 @@ module _ (w : HpsWriter) (p : Push) (lent : List ℕ) {j : Noted} {kept : List �
       let u = unfinished q in
       (omega (arith, t .many u), omega (arith, t .bytes u, t .small, t .room, size))
 
-  push-counts : Counts n w lent (afterPush w p) 0 (block ∷ []) j kept
+  push-counts : Counts n w lent (afterPush w p) (Handed.one block) j kept
   unfolding afterPush advanced block
   push-counts q = (t .small, λ u. (omega (arith, t .many u), omega (arith, t .bytes u, size)))
 
   module _ {call : Called} {l : List ℕ} (e : call ≡ called (pushOf w p lent)) (el : l ≡ pushOf w p lent .lent) where
-    pub push-room : Room j kept l (handedOut call)
+    pub push-room : Room j kept l (placesIn (call .reply))
     unfolding pushOf n block
-    push-room = rw (e, el, push-place w p lent) (room-for n w lent (afterPush w p) 0 (block ∷ []) j kept (t .listed) push-fits)
+    push-room = rw (e, el) (room-for n w lent (afterPush w p) (Handed.one block) j kept (t .listed) push-fits)
 
-    pub push-made : {q : Noted} {after : List ℕ} → Good (call .writer) → Notes j kept l (handedOut call) q after
+    pub push-made : {q : Noted} {after : List ℕ} → Good (call .writer) → Notes j kept l (placesIn (call .reply)) q after
         → MadeBy (pushOf w p lent) j kept (record { writer = call .writer; reply = call .reply; noted = q }) after
-    unfolding pushOf n block writes
-    push-made {q} {after} good h =
-        let k : Notes j kept (pushOf w p lent .lent) (pushOf w p lent .places) q after = rw (e, el, push-place w p lent) at h in
-        record {
-          writer = ap (λ (c : Called). c .writer) e;
-          reply = ap (λ (c : Called). c .reply) e;
-          good = good;
-          tally = rw e (tally-after n w lent (afterPush w p) 0 (block ∷ []) j kept t push-counts k);
-          is = k .is;
-          put = k .put;
-        }
+    unfolding pushOf n block
+    push-made good h = call-made (pushOf w p lent) e el good (tally-after n w lent (afterPush w p) (Handed.one block) j kept t push-counts) h
 
 -- ---- Finish
 
@@ -152,10 +167,10 @@ module _ (w : HpsWriter) (lent : List ℕ) {j : Noted} {kept : List ℕ} (g : Go
   number : ℕ
   number = finishRefusal (w .finished) (w .stream .blocks) (w .stream .last) (length lent)
 
-  header : List Write
-  header = headerWrites (headerOf w)
+  header : Handed
+  header = let h = headerOf w in Handed.three (w .stream .offset) (startWrite h) (restWrite h) (markWrite h)
 
-  header-size : length (handed header) ≤ fileHeaderSize
+  header-size : length (handed (handedWrites header)) ≤ fileHeaderSize
   unfolding handed header
   header-size =
       let h = headerOf w in
@@ -164,56 +179,40 @@ module _ (w : HpsWriter) (lent : List ℕ) {j : Noted} {kept : List ℕ} (g : Go
       let c = take 1 (drop 15 h) in
       omega (arith, length-append a (b ++ (c ++ [])), length-append b (c ++ []), length-append c [], length-take 15 h, length-take 112 (drop 16 h), length-take 1 (drop 15 h))
 
-  finish-fits : Fits number w lent (afterFinish w) (w .stream .offset) header j kept
+  finish-fits : Fits number w lent (afterFinish w) header j kept
   unfolding number header
   finish-fits q =
       let u = passed-finish _ _ _ _ (eqb-true _ 0 q) .no26 in
       (omega (arith, t .many u, g .many), omega (arith, t .bytes u, t .small, t .room, g .room, header-size))
 
-  finish-counts : Counts number w lent (afterFinish w) (w .stream .offset) header j kept
+  finish-counts : Counts number w lent (afterFinish w) header j kept
   unfolding afterFinish
   finish-counts q = (t .small, λ u. apart u)
 
-  module _ {call : Finished} {l : List ℕ} (e : call ≡ finished (finishOf w lent)) (el : l ≡ finishOf w lent .lent) (d : Place) where
-    abbrev Three : List Place
-    Three = whereAccepted (call .reply) (getD (call .places) 0 d ∷ getD (call .places) 1 d ∷ getD (call .places) 2 d ∷ [])
-
-    three : Three ≡ finishOf w lent .places
-    unfolding finishOf
-    three = rw e (by-cases (eqb (finishRefusal (w .finished) (w .stream .blocks) (w .stream .last) (length lent)) 0) (λ q. rw q) (λ q. rw q))
-
-    pub finish-room : Room j kept l Three
+  module _ {call : Called} {l : List ℕ} (e : call ≡ called (finishOf w lent)) (el : l ≡ finishOf w lent .lent) where
+    pub finish-room : Room j kept l (placesIn (call .reply))
     unfolding finishOf number header
-    finish-room = rw (three, el) (room-for number w lent (afterFinish w) (w .stream .offset) header j kept (t .listed) finish-fits)
+    finish-room = rw (e, el) (room-for number w lent (afterFinish w) header j kept (t .listed) finish-fits)
 
-    pub finish-made : {q : Noted} {after : List ℕ} → Good (call .writer) → Notes j kept l Three q after
+    pub finish-made : {q : Noted} {after : List ℕ} → Good (call .writer) → Notes j kept l (placesIn (call .reply)) q after
         → MadeBy (finishOf w lent) j kept (record { writer = call .writer; reply = call .reply; noted = q }) after
-    unfolding finishOf number header writes
-    finish-made {q} {after} good h =
-        let k : Notes j kept (finishOf w lent .lent) (finishOf w lent .places) q after = rw (three, el) at h in
-        record {
-          writer = ap (λ (c : Finished). c .writer) e;
-          reply = ap (λ (c : Finished). c .reply) e;
-          good = good;
-          tally = rw e (tally-after number w lent (afterFinish w) (w .stream .offset) header j kept t finish-counts k);
-          is = k .is;
-          put = k .put;
-        }
+    unfolding finishOf number header
+    finish-made good h = call-made (finishOf w lent) e el good (tally-after number w lent (afterFinish w) header j kept t finish-counts) h
 
 -- ---- Begin
 
 module _ (slot ch : ℕ) (mode : Looping) (lent : List ℕ) {kept : List ℕ} {j : Noted} {call : Called} {l : List ℕ} (none : j ≡ noneNoted) (e : call ≡ called (beginOf slot ch mode lent)) (el : l ≡ beginOf slot ch mode lent .lent) where
-  begin-room : 1 ≤ length kept → Room j kept l (handedOut call)
+  begin-room : 1 ≤ length kept → Room j kept l (placesIn (call .reply))
   unfolding beginOf handed
   begin-room room =
-      rw (none, e, el, begin-place slot ch mode lent)
-      (room-for (beginRefusal slot ch (length lent)) blank lent (emptyOf slot ch mode) 0 beginWrites noneNoted kept (none-listed kept) (λ q. (omega arith, omega arith)))
+      rw (none, e, el)
+      (room-for (beginRefusal slot ch (length lent)) blank lent (emptyOf slot ch mode) (Handed.one beginWrite) noneNoted kept (none-listed kept) (λ q. (omega arith, omega arith)))
 
-  pub begin-made : {q : Noted} {after : List ℕ} → Good (call .writer) → (Room j kept l (handedOut call) → Notes j kept l (handedOut call) q after)
+  pub begin-made : {q : Noted} {after : List ℕ} → Good (call .writer) → (Room j kept l (placesIn (call .reply)) → Notes j kept l (placesIn (call .reply)) q after)
       → Begun slot (beginOf slot ch mode lent) kept (record { writer = call .writer; reply = call .reply; noted = q }) after
   unfolding beginOf writes notedIn writesIn sizes sum handed
   begin-made {q} {after} good h =
-      let k : 1 ≤ length kept → Notes noneNoted kept (beginOf slot ch mode lent .lent) (beginOf slot ch mode lent .places) q after = λ room. rw (none, e, el, begin-place slot ch mode lent) at (h (begin-room room)) in
+      let k : 1 ≤ length kept → Notes noneNoted kept (beginOf slot ch mode lent .lent) (placesIn (beginOf slot ch mode lent .reply)) q after = λ room. rw (none, e, el) at (h (begin-room room)) in
       record {
         writer = ap (λ (c : Called). c .writer) e;
         reply = ap (λ (c : Called). c .reply) e;

@@ -8,7 +8,7 @@ use Rattle.layout.specs.Records.{fileHeaderSize}
 use Rattle.layout.specs.Puts.{putAt}
 use Rattle.writer.specs.WritesAndCuttingRule.{handed}
 use Rattle.writer.specs.Loading.{accepted}
-use Rattle.writer.specs.Calls.{Outcome, writes, replyOf, Good}
+use Rattle.writer.specs.Calls.{Outcome, writes, Good, answerOf}
 use Rattle.writer.specs.declared.HpsWriter.{HpsWriter}
 use Rattle.noted.specs.Noted.{notedIn, Listed}
 use Rattle.noted.specs.declared.Noted.{Noted}
@@ -38,7 +38,7 @@ pub record Tally (j : Noted) (w : HpsWriter) (kept : List ℕ) : Type 0 where
 -- What a call leaves: record and answer are the call's, and its writes are noted after the others, with their bytes; a refused call's are none.
 pub record MadeBy (o : Outcome) (j : Noted) (kept : List ℕ) (m : Made) (after : List ℕ) : Type 0 where
   pub writer : m .writer ≡ o .writer
-  pub reply : m .reply ≡ replyOf (o .answer)
+  pub reply : m .reply ≡ o .reply
   pub good : Good (m .writer)
   pub tally : Tally (m .noted) (m .writer) after
   pub is : notedIn (m .noted) after ≡ notedIn j kept ++ writes o
@@ -47,8 +47,8 @@ pub record MadeBy (o : Outcome) (j : Noted) (kept : List ℕ) (m : Made) (after 
 -- What begin leaves: its write alone is noted, or none where it is refused. Accepted for a slot of at most 65,536 bytes, it leaves room for all that may come.
 pub record Begun (slot : ℕ) (o : Outcome) (kept : List ℕ) (m : Made) (after : List ℕ) : Type 0 where
   pub writer : m .writer ≡ o .writer
-  pub reply : m .reply ≡ replyOf (o .answer)
+  pub reply : m .reply ≡ o .reply
   pub good : Good (m .writer)
-  pub tally : logSize ≤ length kept → slot ≤ keyLimit → o .answer ≡ accepted 0 → Tally (m .noted) (m .writer) after
+  pub tally : logSize ≤ length kept → slot ≤ keyLimit → answerOf o ≡ accepted 0 → Tally (m .noted) (m .writer) after
   pub is : 1 ≤ length kept → notedIn (m .noted) after ≡ writes o
   pub put : 1 ≤ length kept → after ≡ putAt kept 0 (handed (writes o))

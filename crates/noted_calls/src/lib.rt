@@ -4,8 +4,7 @@ use header_writer::finish::finish;
 use layout::limits::KEY_LIMIT;
 use noted::Noted;
 use noted::none;
-use noted::note_one;
-use noted::note_three;
+use noted::note;
 use tearing::least;
 use writer::ChannelBlock;
 use writer::HpsWriter;
@@ -41,8 +40,7 @@ fn begin_with(slot: usize, channels: usize, mode: Looping, lent: &mut [u8], kept
     let call = begin(slot, channels, mode, lent);
     let writer = call.writer;
     let reply = call.reply;
-    let place = call.place;
-    let noted = note_one(none(), reply, place, lent, kept);
+    let noted = note(none(), reply, lent, kept);
     Made {
         writer,
         reply,
@@ -83,8 +81,7 @@ fn push_with(
     let call = push(w, channels, left, right, left_data, right_data, last, lent);
     let writer = call.writer;
     let reply = call.reply;
-    let place = call.place;
-    let noted = note_one(j, reply, place, lent, kept);
+    let noted = note(j, reply, lent, kept);
     Made {
         writer,
         reply,
@@ -131,11 +128,7 @@ fn finish_with(w: HpsWriter, lent: &mut [u8], j: Noted, kept: &mut [u8]) -> Made
     let call = finish(w, lent);
     let writer = call.writer;
     let reply = call.reply;
-    let places = call.places;
-    let start = places[0];
-    let rest = places[1];
-    let mark = places[2];
-    let noted = note_three(j, reply, start, rest, mark, lent, kept);
+    let noted = note(j, reply, lent, kept);
     Made {
         writer,
         reply,

@@ -16,7 +16,7 @@ use Rattle.reader.specs.declared.CueIterator.{CueIterator}
 use Rattle.writer.specs.WritesAndCuttingRule.{Write, CutLeaves}
 use Rattle.writer.specs.Loading.{Call, Answer, accepted, refused, lengthOf, points}
 use Rattle.writer.specs.Typed.{Typed}
-use Rattle.writer.specs.Calls.{Outcome, Good}
+use Rattle.writer.specs.Calls.{Outcome, Good, answerOf}
 use Rattle.writer.specs.declared.Looping.{Looping}
 use Rattle.writer.specs.declared.HpsWriter.{HpsWriter}
 use Rattle.power_cut.specs.LoadingBook.{Block, Book, begun, lengthsOf, endOfBlocks, firstLeft, firstSide, sideOf, dataAt, bookAnswer, bookRun, openingOf, cuesOf}
@@ -35,7 +35,7 @@ pub record WholeList : Type 0 where
   pub mode : Looping
   pub lent : List ℕ
   pub buffer : Slice lent
-  pub begins : begin (length earlier) channels mode lent .answer ≡ accepted 0
+  pub begins : answerOf (begin (length earlier) channels mode lent) ≡ accepted 0
   pub calls : List Call
   pub typed : All Typed calls
 
@@ -100,13 +100,13 @@ NoOtherAnswer =
 unfoldable pub MostChannels : Type 0
 MostChannels =
     (earlier : List ℕ) → Slice earlier → (mode : Looping) (lent : List ℕ) → Slice lent
-    → begin (length earlier) 18446744073709551615 mode lent .answer ≡ refused 3
+    → answerOf (begin (length earlier) 18446744073709551615 mode lent) ≡ refused 3
 
 -- Begin is accepted on a slot of 192 to 16,777,216 bytes, in mono and stereo, with one lent byte or more.
 unfoldable pub Begins : Type 0
 Begins =
     (earlier : List ℕ) → Slice earlier → slotLeast ≤ length earlier → length earlier ≤ slotLimit → (mode : Looping) (lent : List ℕ) → Slice lent → 1 ≤ length lent
-    → (begin (length earlier) 1 mode lent .answer ≡ accepted 0) × (begin (length earlier) 2 mode lent .answer ≡ accepted 0)
+    → (answerOf (begin (length earlier) 1 mode lent) ≡ accepted 0) × (answerOf (begin (length earlier) 2 mode lent) ≡ accepted 0)
 
 -- Begin's record, of a refused one too, meets the premise of the calls.
 unfoldable pub BegunGood : Type 0

@@ -17,6 +17,7 @@ use Rattle.writer.specs.declared.Looping.{Looping}
 use Rattle.power_cut.specs.LoadingBook.{Book, begun, bookRun}
 use Rattle.power_cut.specs.FinishedFile.{fileHeader}
 use Rattle.power_cut.specs.PowerCut.{begin, opens, allWrites}
+use Rattle.writer.specs.Calls.{answerOf}
 
 -- "2 first 8 bytes wrong; 3 channel count not 1 or 2": 2 exactly where these eight bytes, the slot's first, are not the magic, else 3
 abbrev pub refusalBy : (eight : List ℕ) → Opened
@@ -60,4 +61,4 @@ WhichRefusal =
     (earlier : List ℕ) → Slice earlier → (channels : ℕ) → channels < 18446744073709551616 → (mode : Looping) (lent : List ℕ) → Slice lent
     → (let b = bookRun (begun (length earlier) channels mode) in
     let o = begin (length earlier) channels mode lent in
-    o .answer ≡ accepted 0 → (calls : List Call) → All Typed calls → Refusals earlier (b calls) (allWrites o calls))
+    answerOf o ≡ accepted 0 → (calls : List Call) → All Typed calls → Refusals earlier (b calls) (allWrites o calls))

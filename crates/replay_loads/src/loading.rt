@@ -1,8 +1,6 @@
 // A stream loaded through begin, cue, push and finish, with calls among them that are refused, held to recorded answers and bytes.
 use block_writer::push::push;
 use carried::is_carried;
-use carried::is_header_carried;
-use carried::is_reply;
 use check::same;
 use cue_writer::cue;
 use header_writer::finish::finish;
@@ -18,10 +16,8 @@ use writer::Called;
 use writer::ChannelBlock;
 use writer::Cue;
 use writer::CueKind;
-use writer::Finished;
 use writer::HpsWriter;
 use writer::Looping;
-use writer::Place;
 use writer::begin;
 ghost use Prim.Native.Nat.{_<_, _≤_};
 ghost use mathlib.Core.Path.{_≡_};
@@ -89,60 +85,34 @@ fn side(s: &[u8], at: usize) -> ChannelBlock
     }
 }
 
-// Begin or push, as finish returns: with its write as each of three.
-fn with_one(call: Called) -> Finished
-    requires { ⌜ Good (call .writer) ⌝ }
-    ensures { λ q. ⌜ Good (q .writer) ⌝ }
-{
-    let reply = call.reply;
-    let place = call.place;
-    let writer = call.writer;
-    Finished {
-        reply,
-        places: [place; 3],
-        writer,
-    }
-}
-
 // Begin on the slot as it stands.
-fn make_begin(step: &[u8], lent: &mut [u8]) -> Finished
+fn make_begin(step: &[u8], lent: &mut [u8]) -> Called
     ensures { λ q. ⌜ Good (q .writer) ⌝ }
 {
-    with_one(begin(size(step, 8), size(step, 12), mode(number(step, 16)), lent))
+    begin(size(step, 8), size(step, 12), mode(number(step, 16)), lent)
 }
 
-fn make_cue(step: &[u8], w: HpsWriter) -> Finished
+fn make_cue(step: &[u8], w: HpsWriter) -> Called
     requires { ⌜ Good w ⌝ }
     ensures { λ q. ⌜ Good (q .writer) ⌝ }
 {
     let kind = kind(number(step, 12), long(step, 36));
-    let call = cue(
+    cue(
         w,
         Cue {
             start: long(step, 16),
             kind,
             name: number(step, 32),
         },
-    );
-    let reply = call.reply;
-    let writer = call.writer;
-    let nowhere = Place {
-        offset: 0,
-        length: 0,
-    };
-    Finished {
-        reply,
-        places: [nowhere; 3],
-        writer,
-    }
+    )
 }
 
-fn make_push(step: &[u8], w: HpsWriter, lent: &mut [u8]) -> Finished
+fn make_push(step: &[u8], w: HpsWriter, lent: &mut [u8]) -> Called
     requires { ⌜ Good w ⌝ }
     ensures { λ q. ⌜ Good (q .writer) ⌝ }
 {
     let many = size(step, 20);
-    with_one(push(
+    push(
         w,
         size(step, 12),
         side(step, 32),
@@ -151,10 +121,10 @@ fn make_push(step: &[u8], w: HpsWriter, lent: &mut [u8]) -> Finished
         part(step, 136 + many, size(step, 24)),
         number(step, 16) == 1,
         lent,
-    ))
+    )
 }
 
-fn make(step: &[u8], w: HpsWriter, lent: &mut [u8]) -> Finished
+fn make(step: &[u8], w: HpsWriter, lent: &mut [u8]) -> Called
     requires { ⌜ Good w ⌝ }
     ensures { λ q. ⌜ Good (q .writer) ⌝ }
 {
@@ -166,29 +136,21 @@ fn make(step: &[u8], w: HpsWriter, lent: &mut [u8]) -> Finished
     }
 }
 
-// Whether the reply is as recorded; the writes are carried out.
-fn carry(step: &[u8], q: Finished, slot: &mut [u8], lent: &[u8]) -> bool {
-    let due = number(step, 4);
-    let n = size(step, 8);
-    let reply = q.reply;
-    let places = q.places;
-    match number(step, 0) {
-        3 => is_reply(reply, due),
-        5 => is_header_carried(slot, n, reply, due, size(step, 12), places, lent),
-        _ => {
-            let place = places[0];
-            is_carried(slot, n, reply, due, place, lent)
-        }
-    }
-}
-
 fn run_call(step: &[u8], w: HpsWriter, slot: &mut [u8], lent: &mut [u8]) -> Left
     requires { ⌜ Good w ⌝ }
     ensures { λ q. ⌜ Good (q .writer) ⌝ }
 {
     let call = make(step, w, lent);
     let writer = call.writer;
-    let good = carry(step, call, slot, lent);
+    let reply = call.reply;
+    let good = is_carried(
+        slot,
+        size(step, 8),
+        reply,
+        number(step, 4),
+        size(step, 12),
+        lent,
+    );
     Left { writer, good }
 }
 

@@ -11,6 +11,7 @@ use Rattle.calls.specs.Script.{openingOf, begunLength, begins, callsOf, scriptW
 use Rattle.calls.proofs.BeginLaws.{own-length}
 use Rattle.script_cut.specs.ScriptCut.{ScriptCut}
 use Rattle.script_cut.proofs.TypedLaws.{script-typed, channels-typed, zeros-slice}
+use Rattle.writer.specs.Calls.{answerOf}
 
 pub cut-script : ScriptCut
 unfolding ScriptCut PowerCutAtMoments begins scriptWrites
@@ -18,5 +19,5 @@ cut-script earlier e s t a m =
     let b = beginLine (openingOf s .line) in
     let lent = lentOf (openingOf s .lent) in
     let n : begunLength (length earlier) ≡ length earlier = own-length (length earlier) (b .channels) b lent a in
-    let h : begin (length earlier) (b .channels) (b .mode) lent .answer ≡ accepted 0 = rw n at a in
+    let h : answerOf (begin (length earlier) (b .channels) (b .mode) lent) ≡ accepted 0 = rw n at a in
     rw n (at-moments earlier e (b .channels) (channels-typed (openingOf s .line)) (b .mode) lent (zeros-slice (openingOf s .lent)) h (callsOf s) (script-typed s t) m)

@@ -10,6 +10,7 @@ use Rattle.power_cut.specs.PowerCut.{AfterCut}
 use Rattle.tearing.specs.Moments.{slotAt, takenAt}
 use Rattle.script.specs.Lines.{beginLine}
 use Rattle.calls.specs.Script.{openingOf, begins, callsOf, scriptWrites}
+use Rattle.writer.specs.Calls.{answerOf}
 
 -- The loading book after a script's begin, on a slot of this length.
 abbrev pub begunBy : (slot : ℕ) → (script : List ℕ) → Book
@@ -18,6 +19,6 @@ begunBy n s = begun n (beginLine (openingOf s .line) .channels) (beginLine (open
 -- For every earlier slot and every script whose begin is accepted on it, at every moment: the slot that the bytes so far leave opens to what the book says.
 unfoldable pub ScriptCut : Type 0
 ScriptCut =
-    (earlier : List ℕ) → Slice earlier → (script : List ℕ) → Slice script → begins (length earlier) script .answer ≡ accepted 0
+    (earlier : List ℕ) → Slice earlier → (script : List ℕ) → Slice script → answerOf (begins (length earlier) script) ≡ accepted 0
     → (moment : ℕ)
     → AfterCut earlier (bookRun (begunBy (length earlier) script) (callsOf script)) (scriptWrites (length earlier) script) (takenAt (scriptWrites (length earlier) script) moment) (slotAt earlier (scriptWrites (length earlier) script) moment)

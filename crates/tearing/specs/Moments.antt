@@ -13,6 +13,7 @@ use Rattle.writer.specs.Typed.{Typed}
 use Rattle.writer.specs.declared.Looping.{Looping}
 use Rattle.power_cut.specs.LoadingBook.{begun, bookRun}
 use Rattle.power_cut.specs.PowerCut.{begin, allWrites, AfterCut}
+use Rattle.writer.specs.Calls.{answerOf}
 
 -- The slot once the first n bytes of a write have reached it; a write that does not lie in the slot leaves it as it is.
 unfoldable pub reached : List ℕ → Write → (n : ℕ) → List ℕ
@@ -43,5 +44,5 @@ unfoldable pub PowerCutAtMoments : Type 0
 PowerCutAtMoments =
     (earlier : List ℕ) → Slice earlier → (channels : ℕ) → channels < 18446744073709551616 → (mode : Looping) (lent : List ℕ) → Slice lent
     → (let o = begin (length earlier) channels mode lent in
-    o .answer ≡ accepted 0 → (calls : List Call) → All Typed calls
+    answerOf o ≡ accepted 0 → (calls : List Call) → All Typed calls
     → (m : ℕ) → AfterCut earlier (bookRun (begun (length earlier) channels mode) calls) (allWrites o calls) (takenAt (allWrites o calls) m) (slotAt earlier (allWrites o calls) m))

@@ -6,6 +6,8 @@ use Rattle.layout.specs.Puts.{putAt}
 use Rattle.puts.proofs.PutLaws.{putAt-length}
 use Rattle.writer.specs.Calls.{called, beginOf}
 use Rattle.writer.specs.declared.Called.{Called}
+use Rattle.kept_loading.specs.KeptLoading.{callIn, callOf}
+use Rattle.kept_loading.specs.declared.KeptCall.{KeptCall}
 use Rattle.writer.specs.declared.Looping.{Looping}
 use Rattle.kept_sides.specs.Fields.{fieldsOf}
 use Rattle.kept_sides.specs.declared.Fields.{Fields}
@@ -13,19 +15,21 @@ use Rattle.kept_writer.specs.KeptWriter.{modeOf, writerIn}
 use Rattle.kept_record.specs.KeptRecord.{recordBytes}
 use Rattle.kept_record.proofs.RecordLaws.{record-put}
 use Rattle.kept_loading.proofs.BackLaws.{begin-after, begin-sixteen}
-use Rattle.kept_loading.proofs.CallLaws.{leaves, begin-refused, begin-number, begin-lent, begin-accepted}
+use Rattle.kept_loading.proofs.CallLaws.{leaves, left-as, given-as, begin-number, begin-lent}
 use borrow.Author.Needs.{needs}
 use Rattle.kept_loading.proofs.begin_kept.Statement.{statement}
 use Rattle.kept_loading.proofs.begin_kept.Tie as tie
 use Rattle.kept_loading.proofs.begin_kept.Reads as reads
 use Rattle.kept_loading.proofs.begin_kept.Lts as lts
 use Rattle.kept_writer.proofs.loader.fields_of.Reads as fields-of-reads
+use Rattle.kept_loading.proofs.call_of.Reads as call-of-reads
 use Rattle.kept_loading.proofs.refused.Reads as refused-reads
 use Rattle.kept_puts.proofs.put_numbers.Reads as put-numbers-reads
 use Rattle.kept_record.proofs.put_sides.Reads as put-sides-reads
 use Rattle.kept_writer.proofs.loader.mode_of.Reads as mode-of-reads
 use Rattle.writer.proofs.begin.Reads as begin-reads
 use Rattle.kept_sides.specs.KeptSides.{loaderSize}
+use Rattle.kept_puts.specs.KeptNumbers.{numberBytes}
 
 -- begin, by the mode's number
 begun : (b : tie.After-begin) → let a = b .before .before .before .before .before .before .before .args in
@@ -37,6 +41,11 @@ begun b =
       b .begin .ensures .0 ∙ ap (λ (x : Looping). called (beginOf (a .slot) (a .channels) x (a .lent .now))) m,
       b .begin .ensures .1 .0 ∙ ap (λ (x : Looping). beginOf (a .slot) (a .channels) x (a .lent .now) .lent) m,
     )
+
+-- its numbers
+answered : (c : tie.After-call-of) → let a = c .before .before .before .before .before .before .before .before .before .before .before .args in
+    c .call-of .result ≡ callOf (beginOf (a .slot) (a .channels) (modeOf (a .mode)) (a .lent .now))
+answered c = c .call-of .ensures ∙ ap (λ (q : Called). callIn (q .reply)) (begun (c .before .before .before .before) .0)
 
 refused-requires : tie.Need-refused-requires
 refused-requires c κs = search needs
@@ -64,14 +73,8 @@ mode-of-requires c κs = search needs
 begin-requires : tie.Need-begin-requires
 begin-requires c κs = search needs
 
-enum-known-reply : tie.Need-enum-known-reply
-enum-known-reply c = search needs
-
-refused-requires-3 : tie.Need-refused-requires-3
-refused-requires-3 c κs = search needs
-
-enum-told : tie.Need-enum-told
-enum-told c = search needs
+call-of-requires : tie.Need-call-of-requires
+call-of-requires c κs = search needs
 
 fields-of-requires : tie.Need-fields-of-requires
 fields-of-requires c κs = search needs
@@ -81,61 +84,63 @@ put-numbers-requires c κs = omega (arith, c .before .before .before .before .be
 
 put-sides-requires : tie.Need-put-sides-requires
 put-sides-requires c κs =
-    let n = ap length (c .before .before .before .put-numbers .ensures) ∙ putAt-length _ _ _ in
-    omega (arith, c .before .before .before .before .before .before .before .before .before .before .before .before .before .before .before .before .before .before .if1 .left)
+    let e = c .before .before .before .put-numbers .ensures in
+    omega (arith, c .before .before .before .before .before .before .before .before .before .before .before .before .before .before .before .before .before .before .if1 .left, ap length e, putAt-length (c .before .before .before .before .before .before .before .before .before .before .before .before .before .before .before .before .before .before .before .before .before .args .kept .now) 0 (numberBytes (c .before .before .before .before .before .before .before .fields-of .result)))
 
 same-length : tie.Need-same-length
 same-length c = search needs
 
-returns-3 : tie.Need-returns-3
-returns-3 c =
-    let b = c .before .before .before .before .before .before .before .before in
-    let a = b .before .before .before .before .before .before .before .args in
-    let told = begun b in
-    let r = c .before .before .reply .given .1 in
-    let e = c .refused3 .ensures in
-    let k = begin-number (a .slot) (a .channels) (modeOf (a .mode)) (a .lent .now) _ (told .0) _ r in
-    rw (le-ltb (length (a .kept .now)) loaderSize (b .before .before .before .before .if1 .left), le-ltb 2 (a .mode) (b .before .before .before .if2 .left)) (
-      e ∙ begin-refused (a .slot) (a .channels) (modeOf (a .mode)) (a .lent .now) _ (told .0) _ r,
-      (
-        told .1 ∙ begin-lent (a .slot) (a .channels) (modeOf (a .mode)) (a .lent .now) _ (told .0) _ r ∙ leaves _ _ _ _ e k,
-        (leaves _ _ _ _ e k, leaves _ _ _ _ e k),
-      ),
-    )
-
 same-length-2 : tie.Need-same-length-2
 same-length-2 c = search needs
+
+returns-3 : tie.Need-returns-3
+returns-3 c =
+    let p = c .before .before .before .before .before .before .before .before .before .before .before .before .before in
+    let f = c .before .before .before .before .before .before .before .before .before .before in
+    let b = p .before .before .before .before in
+    let a = b .before .before .before .before .before .before .before .args in
+    let told = begun b in
+    let z = c .before .before .before .before .before .before .before .before .before .before .before .if3 .taken in
+    let is = answered p in
+    let o = beginOf (a .slot) (a .channels) (modeOf (a .mode)) (a .lent .now) in
+    let k = a .kept .now in
+    let room = b .before .before .before .before .if1 .left in
+    let due = sym (begin-number (a .slot) (a .channels) (modeOf (a .mode)) (a .lent .now)) ∙ ap (λ (q : KeptCall). q .number) (sym is) ∙ z in
+    let fields : f .fields-of .result ≡ fieldsOf (o .writer) = f .fields-of .ensures ∙ ap (λ (q : Called). fieldsOf (q .writer)) (told .0) in
+    let sixteen = begin-sixteen k (a .slot) (a .channels) (modeOf (a .mode)) (a .lent .now) in
+    let put = record-put k _ (f .fields-of .result) (c .before .before .before .before .before .before .put-numbers .ensures) (omega arith)
+    (ap (λ (m : Fields). length (m .left .coefficients)) fields ∙ sixteen .0)
+    (ap (λ (m : Fields). length (m .right .coefficients)) fields ∙ sixteen .1)
+    (c .before .before .put-sides .ensures)
+    ∙ ap (λ (m : Fields). putAt k 0 (recordBytes m)) fields in
+    rw (le-ltb (length (a .kept .now)) loaderSize room, le-ltb 2 (a .mode) (b .before .before .before .if2 .left)) (
+      is,
+      (
+        told .1 ∙ given-as _ _ _ z,
+        (
+          put ∙ given-as _ _ _ z,
+          ap writerIn put ∙ begin-after k (a .slot) (a .channels) (modeOf (a .mode)) (a .lent .now) room (b .before .before .before .before .before .before .before .fits .channels .fits) due ∙ given-as _ _ _ z,
+        ),
+      ),
+    )
 
 same-length-3 : tie.Need-same-length-3
 same-length-3 c = search needs
 
 returns-4 : tie.Need-returns-4
 returns-4 c =
-    let d = c .before .before .before .before .before .before .before .before .before .before .before in
-    let b = d .before .before .before .before .before .before in
+    let p = c .before .before in
+    let b = p .before .before .before .before in
     let a = b .before .before .before .before .before .before .before .args in
     let told = begun b in
-    let r = d .enum-told .given .1 in
-    let o = beginOf (a .slot) (a .channels) (modeOf (a .mode)) (a .lent .now) in
-    let k = a .kept .now in
-    let f = c .before .before .before .before .before .before .before .before .before .before in
-    let room = b .before .before .before .before .if1 .left in
-    let is : f .fields-of .result ≡ fieldsOf (o .writer) = f .fields-of .ensures ∙ ap (λ (q : Called). fieldsOf (q .writer)) (told .0) in
-    let sixteen = begin-sixteen k (a .slot) (a .channels) (modeOf (a .mode)) (a .lent .now) 0 in
-    let put = record-put k _ (f .fields-of .result) (c .before .before .before .before .before .before .put-numbers .ensures) (omega arith)
-    (ap (λ (m : Fields). length (m .left .coefficients)) is ∙ sixteen .0)
-    (ap (λ (m : Fields). length (m .right .coefficients)) is ∙ sixteen .1)
-    (c .before .before .put-sides .ensures)
-    ∙ ap (λ (m : Fields). putAt k 0 (recordBytes m)) is in
-    rw (le-ltb (length (a .kept .now)) loaderSize room, le-ltb 2 (a .mode) (b .before .before .before .if2 .left)) (
-      begin-accepted (a .slot) (a .channels) (modeOf (a .mode)) (a .lent .now) _ (told .0) _ r,
+    let h = c .if3 .left in
+    let is = answered p in
+    let n : callOf (beginOf (a .slot) (a .channels) (modeOf (a .mode)) (a .lent .now)) .number ≡ 0 → ⊥ = λ z. h (ap (λ (q : KeptCall). q .number) is ∙ z) in
+    rw (le-ltb (length (a .kept .now)) loaderSize (b .before .before .before .before .if1 .left), le-ltb 2 (a .mode) (b .before .before .before .if2 .left)) (
+      is,
       (
-        told .1,
-        (
-          put,
-          ap writerIn put ∙ begin-after k (a .slot) (a .channels) (modeOf (a .mode)) (a .lent .now) _ room
-              (b .before .before .before .before .before .before .before .fits .channels .fits) (sym (ap (λ (q : Called). q .reply) (told .0)) ∙ r),
-        ),
+        told .1 ∙ begin-lent (a .slot) (a .channels) (modeOf (a .mode)) (a .lent .now) n ∙ left-as _ _ _ h,
+        (left-as _ _ _ h, left-as _ _ _ h),
       ),
     )
 
@@ -149,14 +154,12 @@ begin-kept-spec =
     returns-2
     mode-of-requires
     begin-requires
-    enum-known-reply
-    refused-requires-3
-    enum-told
+    call-of-requires
     fields-of-requires
     put-numbers-requires
     put-sides-requires
     same-length
-    returns-3
     same-length-2
+    returns-3
     same-length-3
     returns-4)

@@ -1,19 +1,21 @@
 use mathlib.Core.Path.{_≡_, refl, ap, sym, _∙_}
 use borrow.Author.Tests.{ne-eqb}
-use Rattle.writer.specs.Calls.{cueOf, cued}
+use Rattle.writer.specs.Calls.{called, cueOf}
 use Rattle.writer.specs.declared.HpsWriter.{HpsWriter}
-use Rattle.writer.specs.declared.Cued.{Cued}
+use Rattle.writer.specs.declared.Called.{Called}
 use Rattle.kept_writer.specs.KeptWriter.{streamIn, writerIn}
 use Rattle.kept_writer.proofs.KeptLaws.{kept-good}
 use Rattle.kept_table.specs.KeptTable.{tablePut}
-use Rattle.kept_loading.proofs.CallLaws.{leaves, gives, no-record, cue-refused, cue-number, cue-accepted}
+use Rattle.kept_loading.proofs.CallLaws.{leaves, left-as, given-as, no-record, on-record}
 use Rattle.kept_loading.proofs.AfterLaws.{holds, cue-after}
+use Rattle.kept_loading.specs.KeptLoading.{callIn, callOf}
 use borrow.Author.Needs.{needs}
 use Rattle.kept_loading.proofs.cue_kept.Statement.{statement}
 use Rattle.kept_loading.proofs.cue_kept.Tie as tie
 use Rattle.kept_loading.proofs.cue_kept.Reads as reads
 use Rattle.kept_loading.proofs.cue_kept.Lts as lts
 use Rattle.cue_writer.proofs.cue.Reads as cue-reads
+use Rattle.kept_loading.proofs.call_of.Reads as call-of-reads
 use Rattle.kept_loading.proofs.refused.Reads as refused-reads
 use Rattle.kept_table.proofs.put_table.Reads as put-table-reads
 use Rattle.kept_writer.proofs.loader.writer_in.Reads as writer-in-reads
@@ -38,43 +40,40 @@ returns c =
 cue-requires : tie.Need-cue-requires
 cue-requires c κs = rw (c .before .before .writer-in .ensures) (kept-good _)
 
-enum-known-reply : tie.Need-enum-known-reply
-enum-known-reply c = search needs
+-- the call, on the record that the bytes hold
+told : (u : tie.After-cue) → let s = u .before .before .before .before .before .before in u .cue .result ≡ called (cueOf (writerIn (s .args .kept .now)) (s .args .c))
+told u = let s = u .before .before .before .before .before .before in u .cue .ensures .0 ∙ ap (λ (m : HpsWriter). called (cueOf m (s .args .c))) (u .before .before .before .writer-in .ensures)
 
-refused-requires-2 : tie.Need-refused-requires-2
-refused-requires-2 c κs = search needs
+some : (e : tie.Else1) → streamIn (e .before .before .before .before .before .args .kept .now) .slot ≡ 0 → ⊥
+some e z = e .if1 .left (ap (λ (m : HpsWriter). m .setup .slot) (e .before .before .writer-in .ensures) ∙ z)
 
-enum-told : tie.Need-enum-told
-enum-told c = search needs
+answered : (c : tie.After-call-of) → let s = c .before .before .before .before .before .before .before .before in c .call-of .result ≡ callOf (cueOf (writerIn (s .args .kept .now)) (s .args .c))
+answered c = c .call-of .ensures ∙ ap (λ (q : Called). callIn (q .reply)) (told (c .before .before))
+
+call-of-requires : tie.Need-call-of-requires
+call-of-requires c κs = search needs
 
 put-table-requires : tie.Need-put-table-requires
-put-table-requires c κs =
-    let u = c .before .before .before .before .before in
-    let e = u .before in
-    let k = e .before .before .before .before .before .args .kept .now in
-    let some : streamIn k .slot ≡ 0 → ⊥ = λ z. e .if1 .left (ap (λ (m : HpsWriter). m .setup .slot) (e .before .before .writer-in .ensures) ∙ z) in
-    (search needs, holds k some .room)
-
-refused-requires-3 : tie.Need-refused-requires-3
-refused-requires-3 c κs = search needs
+put-table-requires c κs = let e = c .before .before .before .before .before .before .before in (search needs, holds (e .before .before .before .before .before .args .kept .now) (some e) .room)
 
 same-length-2 : tie.Need-same-length-2
 same-length-2 c = search needs
 
 returns-2 : tie.Need-returns-2
 returns-2 c =
-    let u = c .before .before .before .before .before in
+    let p = c .before .before in
+    let d = c .before .before .before .before .before .before .before in
+    let u = d .before .before in
     let e = u .before in
     let s = e .before .before .before .before .before in
     let k = s .args .kept .now in
-    let some : streamIn k .slot ≡ 0 → ⊥ = λ z. e .if1 .left (ap (λ (m : HpsWriter). m .setup .slot) (e .before .before .writer-in .ensures) ∙ z) in
-    let told : u .cue .result ≡ cued (cueOf (writerIn k) (s .args .c)) = u .cue .ensures .0 ∙ ap (λ (m : HpsWriter). cued (cueOf m (s .args .c))) (e .before .before .writer-in .ensures) in
-    let r = c .before .before .reply .given .1 in
-    let i = c .refused2 .ensures in
-    let t = cue-number (writerIn k) (s .args .c) (u .cue .result) told _ r in
-    rw (ne-eqb (streamIn k .slot) 0 some) (
-      i ∙ cue-refused (writerIn k) (s .args .c) (u .cue .result) told _ r,
-      (leaves _ _ _ _ i t, leaves _ _ _ _ i t),
+    let z = c .before .before .before .before .before .if2 .taken in
+    let w = ap (λ (q : Called). q .writer) (told u) in (
+      on-record k (cueOf (writerIn k) (s .args .c)) (some e) _ (answered d),
+      (
+        p .put-table .ensures .0 ∙ ap (λ (m : HpsWriter). tablePut k (m .table .cues) (m .table .count)) w ∙ given-as _ _ _ z,
+        cue-after k (s .args .c) (u .cue .result .writer) (p .put-table .last .0) (some e) w (p .put-table .ensures .0) (p .put-table .ensures .1) ∙ given-as _ _ _ z,
+      ),
     )
 
 same-length-3 : tie.Need-same-length-3
@@ -82,23 +81,12 @@ same-length-3 c = search needs
 
 returns-3 : tie.Need-returns-3
 returns-3 c =
-    let p = c .before .before .before in
-    let d = p .before .before .before in
-    let u = d .before .before .before in
-    let e = u .before in
+    let d = c .before .before in
+    let e = d .before .before .before in
     let s = e .before .before .before .before .before in
     let k = s .args .kept .now in
-    let some : streamIn k .slot ≡ 0 → ⊥ = λ z. e .if1 .left (ap (λ (m : HpsWriter). m .setup .slot) (e .before .before .writer-in .ensures) ∙ z) in
-    let told : u .cue .result ≡ cued (cueOf (writerIn k) (s .args .c)) = u .cue .ensures .0 ∙ ap (λ (m : HpsWriter). cued (cueOf m (s .args .c))) (e .before .before .writer-in .ensures) in
-    let w = ap (λ (q : Cued). q .writer) told in
-    let i = c .refused3 .ensures in
-    rw (ne-eqb (streamIn k .slot) 0 some) (
-      i ∙ cue-accepted (writerIn k) (s .args .c) (u .cue .result) told _ (d .enum-told .given .1),
-      (
-        p .put-table .ensures .0 ∙ ap (λ (m : HpsWriter). tablePut k (m .table .cues) (m .table .count)) w ∙ gives _ _ _ 0 i refl,
-        cue-after k (s .args .c) (u .cue .result .writer) (p .put-table .last .0) some w (p .put-table .ensures .0) (p .put-table .ensures .1) ∙ gives _ _ _ 0 i refl,
-      ),
-    )
+    let h = c .if2 .left in
+    (on-record k (cueOf (writerIn k) (s .args .c)) (some e) _ (answered d), (left-as _ _ _ h, left-as _ _ _ h))
 
 pub cue-kept-spec : {M : Type 1} → statement M
 cue-kept-spec =
@@ -109,11 +97,8 @@ cue-kept-spec =
     same-length
     returns
     cue-requires
-    enum-known-reply
-    refused-requires-2
-    enum-told
+    call-of-requires
     put-table-requires
-    refused-requires-3
     same-length-2
     returns-2
     same-length-3

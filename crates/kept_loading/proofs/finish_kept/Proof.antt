@@ -1,18 +1,21 @@
 use mathlib.Core.Path.{_≡_, refl, ap, sym, _∙_}
 use borrow.Author.Tests.{eq-eqb, ne-eqb}
-use Rattle.writer.specs.Calls.{finishOf, finished}
+use Rattle.writer.specs.Calls.{called, finishOf}
 use Rattle.writer.specs.declared.HpsWriter.{HpsWriter}
-use Rattle.writer.specs.declared.Finished.{Finished}
+use Rattle.writer.specs.declared.Called.{Called}
 use Rattle.kept_writer.specs.KeptWriter.{streamIn, writerIn}
 use Rattle.kept_writer.proofs.KeptLaws.{kept-good}
 use Rattle.kept_loading.proofs.BackLaws.{finish-after}
-use Rattle.kept_loading.proofs.CallLaws.{leaves, finish-number, finish-lent, finish-told, finish-given}
+use Rattle.kept_loading.proofs.CallLaws.{leaves, left-as, given-as, on-record, finish-number, finish-lent}
+use Rattle.kept_loading.specs.KeptLoading.{callIn, callOf}
+use Rattle.kept_loading.specs.declared.KeptCall.{KeptCall}
 use borrow.Author.Needs.{needs}
 use Rattle.kept_loading.proofs.finish_kept.Statement.{statement}
 use Rattle.kept_loading.proofs.finish_kept.Tie as tie
 use Rattle.kept_loading.proofs.finish_kept.Reads as reads
 use Rattle.kept_loading.proofs.finish_kept.Lts as lts
 use Rattle.header_writer.proofs.finish.finish.Reads as finish-reads
+use Rattle.kept_loading.proofs.call_of.Reads as call-of-reads
 use Rattle.kept_loading.proofs.refused.Reads as refused-reads
 use Rattle.kept_puts.proofs.put_finished.Reads as put-finished-reads
 use Rattle.kept_writer.proofs.loader.writer_in.Reads as writer-in-reads
@@ -37,14 +40,25 @@ returns c =
 finish-requires : tie.Need-finish-requires
 finish-requires c κs = rw (c .before .before .before .writer-in .ensures) (kept-good _)
 
-enum-known-reply : tie.Need-enum-known-reply
-enum-known-reply c = search needs
+-- the call, on the record that the bytes hold
+told : (u : tie.After-finish) → let s = u .before .before .before .before .before .before .before .before in
+    (u .finish .result ≡ called (finishOf (writerIn (s .args .kept .now)) (s .args .lent .now)))
+    × (u .finish .last .1 .0 ≡ finishOf (writerIn (s .args .kept .now)) (s .args .lent .now) .lent)
+told u =
+    let s = u .before .before .before .before .before .before .before .before in
+    let w = u .before .before .before .before .writer-in .ensures in (
+      u .finish .ensures .0 ∙ ap (λ (m : HpsWriter). called (finishOf m (s .args .lent .now))) w,
+      u .finish .ensures .1 .0 ∙ ap (λ (m : HpsWriter). finishOf m (s .args .lent .now) .lent) w,
+    )
 
-refused-requires-2 : tie.Need-refused-requires-2
-refused-requires-2 c κs = search needs
+some : (e : tie.Else1) → streamIn (e .before .before .before .before .before .before .args .kept .now) .slot ≡ 0 → ⊥
+some e z = e .if1 .left (ap (λ (m : HpsWriter). m .setup .slot) (e .before .before .writer-in .ensures) ∙ z)
 
-enum-known-reply-2 : tie.Need-enum-known-reply-2
-enum-known-reply-2 c = search needs
+answered : (c : tie.After-call-of) → let s = c .before .before .before .before .before .before .before .before .before .before .before in c .call-of .result ≡ callOf (finishOf (writerIn (s .args .kept .now)) (s .args .lent .now))
+answered c = c .call-of .ensures ∙ ap (λ (q : Called). callIn (q .reply)) (told (c .before .before .before) .0)
+
+call-of-requires : tie.Need-call-of-requires
+call-of-requires c κs = search needs
 
 put-finished-requires : tie.Need-put-finished-requires
 put-finished-requires c κs = search needs
@@ -57,22 +71,19 @@ same-length-3 c = search needs
 
 returns-2 : tie.Need-returns-2
 returns-2 c =
-    let u = c .before .before .before .before .before .before in
+    let d = c .before .before .before .before .before .before in
+    let u = d .before .before .before in
     let e = u .before .before in
     let s = e .before .before .before .before .before .before in
     let k = s .args .kept .now in
-    let some : streamIn k .slot ≡ 0 → ⊥ = λ z. e .if1 .left (ap (λ (m : HpsWriter). m .setup .slot) (e .before .before .writer-in .ensures) ∙ z) in
-    let w = e .before .before .writer-in .ensures in
-    let o = finishOf (writerIn k) (s .args .lent .now) in
-    let q : u .finish .result ≡ finished o = u .finish .ensures .0 ∙ ap (λ (m : HpsWriter). finished (finishOf m (s .args .lent .now))) w in
-    let r = c .before .before .reply .given .1 in
-    let i = c .refused2 .ensures in
-    let t = finish-number (writerIn k) (s .args .lent .now) _ q _ r in
-    rw (ne-eqb (streamIn k .slot) 0 some) (
-      i ∙ finish-told o _ q _ r,
+    let z = c .before .before .before .before .if2 .taken in
+    let is = answered d in
+    let due = sym (finish-number (writerIn k) (s .args .lent .now)) ∙ ap (λ (q : KeptCall). q .number) (sym is) ∙ z in
+    let put = c .before .before .put-finished .ensures in (
+      on-record k (finishOf (writerIn k) (s .args .lent .now)) (some e) _ is,
       (
-        u .finish .ensures .1 .0 ∙ ap (λ (m : HpsWriter). finishOf m (s .args .lent .now) .lent) w ∙ finish-lent (writerIn k) (s .args .lent .now) _ q _ r ∙ leaves _ _ _ _ i t,
-        (leaves _ _ _ _ i t, leaves _ _ _ _ i t),
+        told u .1 ∙ given-as _ _ _ z,
+        (put ∙ given-as _ _ _ z, ap writerIn put ∙ finish-after k (s .args .lent .now) (some e) due ∙ given-as _ _ _ z),
       ),
     )
 
@@ -84,23 +95,16 @@ same-length-5 c = search needs
 
 returns-3 : tie.Need-returns-3
 returns-3 c =
-    let d = c .before .before .before .before .before in
-    let u = d .before .before .before .before in
+    let d = c .before .before in
+    let u = d .before .before .before in
     let e = u .before .before in
     let s = e .before .before .before .before .before .before in
     let k = s .args .kept .now in
-    let some : streamIn k .slot ≡ 0 → ⊥ = λ z. e .if1 .left (ap (λ (m : HpsWriter). m .setup .slot) (e .before .before .writer-in .ensures) ∙ z) in
-    let w = e .before .before .writer-in .ensures in
-    let o = finishOf (writerIn k) (s .args .lent .now) in
-    let q : u .finish .result ≡ finished o = u .finish .ensures .0 ∙ ap (λ (m : HpsWriter). finished (finishOf m (s .args .lent .now))) w in
-    let r = d .reply2 .given .1 in
-    let put = c .before .before .put-finished .ensures in
-    rw (ne-eqb (streamIn k .slot) 0 some) (
-      finish-given o _ q _ r,
-      (
-        u .finish .ensures .1 .0 ∙ ap (λ (m : HpsWriter). finishOf m (s .args .lent .now) .lent) w,
-        (put, ap writerIn put ∙ finish-after k (s .args .lent .now) _ some (sym (ap (λ (f : Finished). f .reply) q) ∙ r)),
-      ),
+    let h = c .if2 .left in
+    let is = answered d in
+    let n : callOf (finishOf (writerIn k) (s .args .lent .now)) .number ≡ 0 → ⊥ = λ z. h (ap (λ (q : KeptCall). q .number) is ∙ z) in (
+      on-record k (finishOf (writerIn k) (s .args .lent .now)) (some e) _ is,
+      (told u .1 ∙ finish-lent (writerIn k) (s .args .lent .now) n ∙ left-as _ _ _ h, (left-as _ _ _ h, left-as _ _ _ h)),
     )
 
 pub finish-kept-spec : {M : Type 1} → statement M
@@ -112,9 +116,7 @@ finish-kept-spec =
     same-length
     returns
     finish-requires
-    enum-known-reply
-    refused-requires-2
-    enum-known-reply-2
+    call-of-requires
     put-finished-requires
     same-length-2
     same-length-3

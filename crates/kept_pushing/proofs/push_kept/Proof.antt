@@ -20,6 +20,8 @@ use Rattle.kept_sides.specs.KeptSides.{tableIn, cuesAt}
 use Rattle.kept_writer.specs.KeptWriter.{streamIn, writerIn, takenIn, heldIn}
 use Rattle.kept_writer.proofs.KeptLaws.{kept-good, loop-same}
 use Rattle.block_writer.proofs.PushLaws.{push-refused, push-accepted, sound, to-within, few-points, are-taken, Worked, due-is, passes, starts, totals, sized, room, bytes-are}
+use Rattle.kept_loading.specs.KeptLoading.{callIn}
+use Rattle.writer.specs.declared.Called.{Called}
 use Rattle.kept_loading.proofs.CallLaws.{leaves, no-record, on-record}
 use Rattle.kept_record.specs.KeptRecord.{pushedBytes}
 use Rattle.kept_loading.proofs.AfterLaws.{holds}
@@ -196,7 +198,7 @@ returns-2 c =
     let q = push-refused (writerIn k) (pushed s) (s .args .lent .now) _ (due-is (worked p)) (c .before .if2 .taken) _ refl in
     let i = c .refused2 .ensures in
     let t = ne-eqb _ 0 (c .before .if2 .taken) in
-    (i ∙ on-record k (pushOf (writerIn k) (pushed s) (s .args .lent .now)) (some e) _ (q .0), leaves _ _ _ _ i t, leaves _ _ _ _ i t, leaves _ _ _ _ i t)
+    (i ∙ on-record k (pushOf (writerIn k) (pushed s) (s .args .lent .now)) (some e) _ (ap (λ (x : Called). callIn (x .reply)) (q .0)), leaves _ _ _ _ i t, leaves _ _ _ _ i t, leaves _ _ _ _ i t)
 
 put-header-requires : tie.Need-put-header-requires
 put-header-requires c κs = search needs
@@ -268,7 +270,7 @@ returns-3 c =
     ∙ ap (λ (m : Fields). putAt (c .before .before .before .before .before .before .before .before .before .before .before .before .before .before .before .before .before .put-header .last .0) 32 (filledBytes (m .base) (m .id) (slice (m .next) (p .before .before .before .take-kept .result .to) (tableIn k cuesAt (m .count))))) (stream e) in
     let b = bytes-are w z _ _ _ (c .before .before .before .before .before .before .before .before .before .before .before .before .before .before .before .before .before .put-header .ensures) put (c .before .before .before .before .before .before .before .before .put-data .ensures) in
     let q = push-accepted (writerIn k) (pushed s) (s .args .lent .now) _ (due-is w) z _ _ _ refl (sized w z) (room w z .1) b in
-    let r = on-record k (pushOf (writerIn k) (pushed s) (s .args .lent .now)) (some e) _ (q .0) in
+    let r = on-record k (pushOf (writerIn k) (pushed s) (s .args .lent .now)) (some e) _ (ap (λ (x : Called). callIn (x .reply)) (q .0)) in
     let t = p .before .before .before .take-kept .result in
     let end = p .before .before .before .before .before .block-end .result in
     let is = parts (p .before .before .before .before .before .before) .1 in

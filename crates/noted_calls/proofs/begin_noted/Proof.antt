@@ -3,31 +3,24 @@ use Rattle.noted_calls.proofs.TallyLaws.{lent-is, lent-length}
 use Rattle.noted_calls.proofs.begin_noted.Statement.{statement}
 use Rattle.noted_calls.proofs.begin_noted.Tie as tie
 
--- src/lib.rt:57:20
 zeros-requires : tie.Need-zeros-requires
 zeros-requires c κs = search needs
 
--- src/lib.rt:58:9
 least-requires : tie.Need-least-requires
 least-requires c κs = search needs
 
--- src/lib.rt:59:38
 array-borrow-prefix-lent : tie.Need-array-borrow-prefix-lent
 array-borrow-prefix-lent c = search needs
 
--- src/lib.rt:59:38
 slice-aggregate-begin-with : tie.Need-slice-aggregate-begin-with
 slice-aggregate-begin-with c = lent-length _ (c .before .before .zeros .ensures) (c .before .least .ensures)
 
--- src/lib.rt:59:5
 begin-with-requires : tie.Need-begin-with-requires
 begin-with-requires c κs = search needs
 
--- src/lib.rt:54:1
 same-length : tie.Need-same-length
 same-length c = search needs
 
--- src/lib.rt:54:1
 returns : tie.Need-returns
 returns c = rw (← lent-is _ (c .before .before .before .before .before .before .before .zeros .ensures) (c .before .before .before .before .before .before .least .ensures)) (c .before .before .before .begin-with .ensures)
 

@@ -3,31 +3,24 @@ use Rattle.noted_calls.proofs.TallyLaws.{lent-is, lent-length}
 use Rattle.noted_calls.proofs.push_noted.Statement.{statement}
 use Rattle.noted_calls.proofs.push_noted.Tie as tie
 
--- src/lib.rt:105:20
 zeros-requires : tie.Need-zeros-requires
 zeros-requires c κs = search needs
 
--- src/lib.rt:106:9
 least-requires : tie.Need-least-requires
 least-requires c κs = search needs
 
--- src/lib.rt:115:9
 array-borrow-prefix-lent : tie.Need-array-borrow-prefix-lent
 array-borrow-prefix-lent c = search needs
 
--- src/lib.rt:115:9
 slice-aggregate-push-with : tie.Need-slice-aggregate-push-with
 slice-aggregate-push-with c = lent-length _ (c .before .before .zeros .ensures) (c .before .least .ensures)
 
--- src/lib.rt:107:5
 push-with-requires : tie.Need-push-with-requires
 push-with-requires c κs = search needs
 
--- src/lib.rt:90:1
 same-length : tie.Need-same-length
 same-length c = search needs
 
--- src/lib.rt:90:1
 returns : tie.Need-returns
 returns c = rw (← lent-is _ (c .before .before .before .before .before .before .before .zeros .ensures) (c .before .before .before .before .before .before .least .ensures)) (c .before .before .before .push-with .ensures)
 

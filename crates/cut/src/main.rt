@@ -8,7 +8,7 @@ use io::read_full;
 use io::write_all;
 use libc::STDERR_FILENO;
 use libc::STDOUT_FILENO;
-use printing::slot_room;
+use key_print::slot_room;
 use words::numbers::Number;
 use words::numbers::unsigned;
 

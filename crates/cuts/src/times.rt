@@ -1,8 +1,8 @@
 // The runs of moments with the same listing.
 use noted::Noted;
-use printing::print_listing;
-use printing::same_listing;
-use printing::slot_room;
+use key_print::print_listing;
+use key_print::same_listing;
+use key_print::slot_room;
 use puts::put_bytes;
 use tearing::next_moment;
 use telling::print_numbers;
@@ -11,7 +11,7 @@ ghost use mathlib.Core.List.{List};
 ghost use Prim.Native.Nat.{ℕ, _≤_};
 ghost use lib.ListN.{length};
 ghost use Rattle.tearing.specs.Moments.{slotAt};
-ghost use Rattle.listing.specs.MarkingKey.{listing};
+ghost use Rattle.key_listing.specs.MarkingKey.{listing};
 ghost use Rattle.noted.specs.Noted.{notedIn, Listed};
 ghost use Rattle.calls.specs.Script.{scriptWrites};
 ghost use Rattle.cuts.specs.Moments.{Run, RunEnds};

@@ -6,7 +6,7 @@ use cuts::files::read_file;
 use io::large_buffer;
 use io::write_all;
 use libc::STDOUT_FILENO;
-use printing::slot_room;
+use key_print::slot_room;
 
 // Whether two files are the same; what they have past 65,536 bytes is not looked at.
 fn same_files(one: &[u8], two: &[u8]) -> bool {

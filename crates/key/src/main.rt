@@ -2,8 +2,8 @@
 use io::read_full;
 use libc::STDIN_FILENO;
 use libc::STDOUT_FILENO;
-use printing::print_listing;
-use printing::slot_room;
+use key_print::print_listing;
+use key_print::slot_room;
 
 fn main() {
     let mut slot = slot_room();

@@ -13,8 +13,8 @@ use Rattle.layout.specs.Lists.{concat}
 use Rattle.layout.specs.Puts.{putAt}
 use Rattle.layout.proofs.Cases.{by-cases}
 use Rattle.puts.proofs.PutLaws.{Put, put-then, putAt-length, putAt-none, putAt-out}
-use Rattle.lines.specs.Lines.{column}
-use Rattle.lines.proofs.ColumnLaws.{column-length}
+use Rattle.key_lines.specs.Lines.{column}
+use Rattle.key_lines.proofs.ColumnLaws.{column-length}
 use Rattle.telling.specs.Telling.{numberLine}
 
 -- ---- How many numbers: three at most

@@ -1,6 +1,6 @@
 // Lines of numbers: a four-letter word and three numbers at most, in columns as a line of the listing has them.
 use io::write_all;
-use lines::columns::put_column;
+use key_lines::columns::put_column;
 use puts::put_bytes;
 use puts::put_u8;
 ghost use mathlib.Core.Path.{_≡_};

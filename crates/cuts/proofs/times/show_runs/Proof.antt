@@ -3,7 +3,7 @@ use Prim.Native.Nat.{_+_, _-_}
 use mathlib.Core.Path.{ap, sym, _∙_}
 use lib.ListN.{length}
 use denote.Ref.{now}
-use Rattle.listing.specs.MarkingKey.{listing}
+use Rattle.key_listing.specs.MarkingKey.{listing}
 use Rattle.cuts.specs.Moments.{RunEnds}
 use native.Mathlib.Omega.{arith}
 use Rattle.noted.specs.Noted.{notedIn}

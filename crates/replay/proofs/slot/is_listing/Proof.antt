@@ -3,15 +3,15 @@ use mathlib.Core.Path.{_≡_}
 use native.Mathlib.Omega.{arith}
 use lib.ListN.{length}
 use borrow.Author.Needs.{needs}
-use Rattle.listing.proofs.LineLaws.{filled-fits, filled-inside, filled-prefix}
+use Rattle.key_listing.proofs.LineLaws.{filled-fits, filled-inside, filled-prefix}
 use Rattle.replay.proofs.slot.is_listing.Statement.{statement}
 use Rattle.replay.proofs.slot.is_listing.Tie as tie
 use Rattle.replay.proofs.slot.is_listing.Reads as reads
 use Rattle.replay.proofs.slot.is_listing.Lts as lts
 use Rattle.check.proofs.same.Reads as same-reads
 use Rattle.io.proofs.large_buffer.Reads as large-buffer-reads
-use Rattle.listing.proofs.listing.fill.Reads as fill-reads
-use Rattle.listing_start.proofs.start_listing.Reads as start-listing-reads
+use Rattle.key_listing.proofs.listing.fill.Reads as fill-reads
+use Rattle.key_listing.proofs.start.start_listing.Reads as start-listing-reads
 use Rattle.stored.proofs.part.Reads as part-reads
 
 abbrev Inv-loop : tie.InvT-loop

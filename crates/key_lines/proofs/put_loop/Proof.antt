@@ -1,0 +1,18 @@
+use borrow.Author.Needs.{needs}
+use Rattle.layout.specs.Lists.{concat}
+use Rattle.key_lines.specs.Lines.{line, loopLine}
+use Rattle.key_lines.proofs.put_loop.Statement.{statement}
+use Rattle.key_lines.proofs.put_loop.Tie as tie
+
+put-line-requires : tie.Need-put-line-requires
+put-line-requires c κs = search needs
+
+same-length : tie.Need-same-length
+same-length c = search needs
+
+returns : tie.Need-returns
+unfolding loopLine line concat
+returns c = c .before .before .put-line .ensures
+
+pub put-loop-spec : {M : Type 1} → statement M
+put-loop-spec = tie.close (tie.spec put-line-requires same-length returns)

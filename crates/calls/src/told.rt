@@ -1,7 +1,8 @@
 // What is told of a call.
+use key_lines::Column;
 use noted::Noted;
 use script::kinds::Kind;
-use telling::print_numbers;
+use telling::print_line;
 use writer::MOST_WRITES;
 use writer::Place;
 use writer::Reply;
@@ -12,21 +13,43 @@ pub struct Voice {
     pub say: bool,
 }
 
+// The length of a call's DONE: finish's alone has it.
+fn length_column(kind: Kind, length: usize) -> Column {
+    if let Kind::Finish = kind {
+        return Column::Number(length as u64);
+    }
+    Column::Nothing
+}
+
 // DONE and the call's number, of finish the length too; or STOP, the number and the refusal.
-fn tell_reply(fd: i32, call: u64, reply: Reply, count: usize) {
+fn tell_reply(fd: i32, call: u64, kind: Kind, reply: Reply) {
+    let number = Column::Number(call);
     match reply {
-        Reply::Refused(number) => print_numbers(fd, b"STOP", [call, number as u64, 0], 2),
-        Reply::Accepted(length) => print_numbers(fd, b"DONE", [call, length as u64, 0], count),
+        Reply::Refused(why) => {
+            print_line(
+                fd,
+                b"STOP",
+                number,
+                Column::Number(why as u64),
+                Column::Nothing,
+            )
+        }
+        Reply::Accepted(length) => {
+            print_line(
+                fd,
+                b"DONE",
+                number,
+                length_column(kind, length),
+                Column::Nothing,
+            )
+        }
     }
 }
 
 fn tell_write(fd: i32, call: u64, place: Place) {
-    print_numbers(
-        fd,
-        b"WRIT",
-        [call, place.offset as u64, place.length as u64],
-        3,
-    );
+    let offset = Column::Number(place.offset as u64);
+    let length = Column::Number(place.length as u64);
+    print_line(fd, b"WRIT", Column::Number(call), offset, length);
 }
 
 // The writes noted from here on.
@@ -42,17 +65,9 @@ fn tell_writes(fd: i32, call: u64, noted: Noted, from: usize) {
     }
 }
 
-// How many numbers a call's DONE has: finish's has the length too.
-fn numbers_of(kind: Kind) -> usize {
-    if let Kind::Finish = kind {
-        return 2;
-    }
-    1
-}
-
 // Tells a call: its reply, and the writes that are noted from its first on.
 pub(crate) fn tell_call(fd: i32, call: u64, kind: Kind, reply: Reply, noted: Noted, from: usize) {
-    tell_reply(fd, call, reply, numbers_of(kind));
+    tell_reply(fd, call, kind, reply);
     tell_writes(fd, call, noted, from);
 }
 

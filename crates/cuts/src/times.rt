@@ -1,11 +1,12 @@
 // The runs of moments with the same listing.
-use noted::Noted;
+use key_lines::Column;
 use key_print::print_listing;
 use key_print::same_listing;
 use key_print::slot_room;
+use noted::Noted;
 use puts::put_bytes;
 use tearing::next_moment;
-use telling::print_numbers;
+use telling::print_line;
 ghost use mathlib.Core.Path.{_≡_};
 ghost use mathlib.Core.List.{List};
 ghost use Prim.Native.Nat.{ℕ, _≤_};
@@ -20,7 +21,14 @@ ghost use Rattle.cuts.specs.Moments.{Run, RunEnds};
 fn print_run(fd: i32, earlier: &[u8], text: &[u8], from: usize, last: usize, slot: &[u8])
     requires { ⌜ Run (now earlier) (now text) from last (listing (now slot)) ⌝ }
 {
-    print_numbers(fd, b"TIME", [from as u64, last as u64, 0], 2);
+    let first = Column::Number(from as u64);
+    print_line(
+        fd,
+        b"TIME",
+        first,
+        Column::Number(last as u64),
+        Column::Nothing,
+    );
     print_listing(fd, slot);
 }
 

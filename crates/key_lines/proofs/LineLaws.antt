@@ -7,14 +7,14 @@ use native.Mathlib.Numerals.{add-one}
 use lib.ListN.{length, drop, getD, length-append, drop-of-length-le}
 use lib.Seq.{drop-cons}
 use lib.Dec.{leb}
-use borrow.Author.Tests.{le-leb, lt-leb}
-use Rattle.layout.specs.Choice.{pick}
+use borrow.Author.Tests.{le-leb, lt-leb, leb-true}
 use Rattle.layout.specs.Lists.{concat, sum}
 use Rattle.layout.specs.Puts.{putAt}
 use Rattle.layout.specs.declared.DspFormat.{DspFormat}
 use Rattle.reader.specs.declared.LoopStart.{LoopStart}
 use Rattle.reader.specs.declared.LoopStart.the-variants.{None, Block}
 use Rattle.reader.specs.declared.HpsReader.{HpsReader}
+use Rattle.layout.proofs.Cases.{by-cases}
 use Rattle.puts.proofs.PutLaws.{Put, put-then, putAt-length, putAt-none, kept}
 use Rattle.key_lines.specs.declared.Column.{Column}
 use Rattle.key_lines.specs.declared.Column.the-variants.{Number, Start, Minus, Nothing}
@@ -152,6 +152,13 @@ module _ (l : List ℕ) (at : ℕ) (word : List ℕ) (cs : List Column) {n : ℕ
       let q = put-then (record { size = f; is = w }) (concat columnBytes cs) (columns-length cs) (p .is ∙ ap (putAt a (at + 4)) (sym z)) refl (omega arith) in
       let r = put-then q (10 ∷ []) refl g o (omega arith) in
       record { put = r .is; long = rw (le-leb (at + length (line word cs)) (length l) (omega arith)) (omega arith) }
+
+-- what is put lies in the buffer
+pub put-most : {l bs c : List ℕ} {at n : ℕ} → LinePut l at bs c n → n ≤ length l
+put-most {l} {bs} {c} {at} {n} p =
+    by-cases (leb (at + length bs) (length l))
+    (λ t. omega (arith, leb-true (at + length bs) (length l) t, rw t at (p .long)))
+    (λ t. omega (arith, rw t at (p .long)))
 
 -- ---- How long the listing's lines are
 

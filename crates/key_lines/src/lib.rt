@@ -24,7 +24,12 @@ pub fn put_stop(out: &mut [u8], at: usize, number: u32) -> usize
     ensures { λ n. ⌜ LinePut (now (out .entry)) at (stopLine number) (now (out .exit)) n ⌝ }
 {
     let none = Column::Nothing;
-    put_line(out, at, b"STOP", [Column::Number(number as u64), none, none, none, none])
+    put_line(
+        out,
+        at,
+        b"STOP",
+        [Column::Number(number as u64), none, none, none, none],
+    )
 }
 
 // The loop block's index, or `-`.
@@ -75,12 +80,28 @@ pub fn put_loop(out: &mut [u8], at: usize, start: u64) -> usize
     ensures { λ n. ⌜ LinePut (now (out .entry)) at (loopLine start) (now (out .exit)) n ⌝ }
 {
     let none = Column::Nothing;
-    put_line(out, at, b"LOOP", [Column::Start(start), none, none, none, none])
+    put_line(
+        out,
+        at,
+        b"LOOP",
+        [Column::Start(start), none, none, none, none],
+    )
 }
 
 pub fn put_cue(out: &mut [u8], at: usize, start: u64, id: u32) -> usize
     ensures { λ n. ⌜ LinePut (now (out .entry)) at (cueLine start id) (now (out .exit)) n ⌝ }
 {
     let none = Column::Nothing;
-    put_line(out, at, b"CUEP", [Column::Start(start), Column::Number(id as u64), none, none, none])
+    put_line(
+        out,
+        at,
+        b"CUEP",
+        [
+            Column::Start(start),
+            Column::Number(id as u64),
+            none,
+            none,
+            none,
+        ],
+    )
 }

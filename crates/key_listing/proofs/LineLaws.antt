@@ -22,7 +22,7 @@ use Rattle.key_listing.specs.declared.listing.Line.{Line}
 use Rattle.key_lines.specs.Lines.{loopLine, cueLine, LinePut}
 use Rattle.key_listing.specs.MarkingKey.{linesFrom, listingFrom}
 use Rattle.key_listing.specs.Filling.{LineIs, FilledIs, lineOr, linesFitting, linesBeyond, lineFitting, linesAfter}
-use Rattle.key_listing.proofs.ListingLaws.{cues-none, cues-refused, cues-end, cues-loop, cues-point, sized, first-fits, fitting-next, beyond-next, full, fitting-beyond, fitting-fits, none-left}
+use Rattle.key_listing.proofs.ListingLaws.{cues-none, cues-refused, cues-end, cues-loop, cues-point, Sized, sized, first-fits, fitting-next, beyond-next, full, fitting-beyond, fitting-fits, none-left}
 
 module _ (s : List ℕ) (r : HpsReader) (stage : Stage) (out : List ℕ) (at : ℕ) where
   -- nothing is left
@@ -31,21 +31,23 @@ module _ (s : List ℕ) (r : HpsReader) (stage : Stage) (out : List ℕ) (at : �
   line-done q e h = rw e (record { long = rw h; put = rw h (sym (putAt-none out at)); rest = rw h })
 
   -- the next line, put where it fits
-  pub line-or : (line : List ℕ) (next : Stage) {after : List ℕ} {n : ℕ} → 0 < length line → linesFrom s r stage ≡ line ∷ linesFrom s r next → LinePut out at line after n
-      → LineIs s r stage out at after (lineOr n stage next)
-  line-or line next {after} {n} some h p =
-      by-cases (leb (at + length line) (length out))
+  pub line-or : (line : List ℕ) (next : Stage) {after : List ℕ} {n : ℕ} → linesFrom s r stage ≡ line ∷ linesFrom s r next → LinePut out at line after n → (q : Line) → q ≡ lineOr n stage next
+      → LineIs s r stage out at after q
+  unfolding Sized
+  line-or line next {after} {n} h p q e =
+      let some = (rw h at (sized s r stage)) .0 .0 in
+      rw e (by-cases (leb (at + length line) (length out))
       (λ f.
-        let i = leb-true (at + length line) (length out) f in
-        let t = le-leb (length line) (length out - at) (omega arith) in
-        let l : n ≡ length line = p .long ∙ rw f in
-        let z = ne-eqb n 0 (λ e. omega arith) in
-        record { long = rw (h, t) l; put = rw (h, t) (p .put); rest = rw (h, t, z) })
+      let i = leb-true (at + length line) (length out) f in
+      let t = le-leb (length line) (length out - at) (omega arith) in
+      let l : n ≡ length line = p .long ∙ rw f in
+      let z = ne-eqb n 0 (λ m. omega arith) in
+      record { long = rw (h, t) l; put = rw (h, t) (p .put); rest = rw (h, t, z) })
       (λ f.
-        let i = leb-false (at + length line) (length out) f in
-        let t = lt-leb (length line) (length out - at) (omega arith) in
-        let l : n ≡ 0 = p .long ∙ rw f in
-        record { long = rw (h, t) l; put = rw (h, t) (p .put ∙ putAt-out out at line i ∙ sym (putAt-none out at)); rest = rw (h, t, eq-eqb n 0 l) h })
+      let i = leb-false (at + length line) (length out) f in
+      let t = lt-leb (length line) (length out - at) (omega arith) in
+      let l : n ≡ 0 = p .long ∙ rw f in
+      record { long = rw (h, t) l; put = rw (h, t) (p .put ∙ putAt-out out at line i ∙ sym (putAt-none out at)); rest = rw (h, t, eq-eqb n 0 l) h }))
 
 -- the stage that it is
 pub stage-as : (s : List ℕ) (r : HpsReader) (out : List ℕ) (at : ℕ) {t u : Stage} {after : List ℕ} {q : Line} → t ≡ u → LineIs s r u out at after q → LineIs s r t out at after q

@@ -1,5 +1,5 @@
 -- Columns put one after the other, and how long lines are.
-use Prim.Native.Nat.{ℕ, suc, _+_, _*_, _<_, _≤_}
+use Prim.Native.Nat.{ℕ, _+_, _*_, _<_, _≤_}
 use mathlib.Core.Path.{_≡_, refl, ap, sym, _∙_}
 use mathlib.Core.List.{List, [], _∷_, _++_, append-assoc, append-nil}
 use native.Mathlib.Omega.{arith}
@@ -18,8 +18,7 @@ use Rattle.layout.proofs.Cases.{by-cases}
 use Rattle.puts.proofs.PutLaws.{Put, put-then, putAt-length, putAt-none, kept}
 use Rattle.key_lines.specs.declared.Column.{Column}
 use Rattle.key_lines.specs.declared.Column.the-variants.{Number, Start, Minus, Nothing}
-use Rattle.key_lines.specs.Widths.{widthOf}
-use Rattle.key_lines.specs.Lines.{columnBytes, line, stopLine, loopColumn, headLine, blockLine, loopLine, cueLine, LinePut}
+use Rattle.key_lines.specs.Lines.{columnBytes, widthOf, line, stopLine, loopColumn, headLine, blockLine, loopLine, cueLine, LinePut}
 use Rattle.key_lines.proofs.ColumnLaws.{column-length}
 
 -- by the column that is there
@@ -104,28 +103,30 @@ pub record Columns (l : List ℕ) (at : ℕ) (cs : List Column) (b : List ℕ) (
   pub whole : concat columnBytes cs ≡ bytes ++ concat columnBytes (drop i cs)
 
 -- none after the word
-pub columns-none : (l word : List ℕ) (at : ℕ) {a : List ℕ} {n : ℕ} {cs : List Column} → length cs ≡ 5 → n ≡ 5 + sum widthOf cs → at + n ≤ length l → a ≡ putAt l at word
-    → Columns a (at + 4) cs a (at + 4) 0
+pub columns-none : (l word : List ℕ) (at : ℕ) {a : List ℕ} {n : ℕ} {cs : List Column} → length cs ≡ 5 → n ≡ 5 + sum widthOf cs
+    → at + n ≤ length l → a ≡ putAt l at word → Columns a (at + 4) cs a (at + 4) 0
 columns-none l word at {a} {n} {cs} e s h w =
     let m : length a ≡ length l = ap length w ∙ putAt-length l at word in
     record { bytes = []; five = e; few = omega arith; long = refl; room = omega arith; stop = omega arith; is = sym (putAt-none a (at + 4)); whole = refl }
 
 module _ {l : List ℕ} {at : ℕ} {cs : List Column} {b : List ℕ} {end i : ℕ} (p : Columns l at cs b end i) where
-  pub columns-more : i < 5 → (c : List ℕ) (d : Column) → c ≡ putAt b end (columnBytes (getD cs i d)) → (w : ℕ) → w ≡ widthOf (getD cs i d) → Columns l at cs c (end + w) (i + 1)
+  pub columns-more : i < 5 → (c : List ℕ) (d : Column) → c ≡ putAt b end (columnBytes (getD cs i d)) → (w : ℕ) → w ≡ widthOf (getD cs i d)
+      → Columns l at cs c (end + w) (i + 1)
   columns-more h c d e w f =
       let lt : i < length cs = omega (arith, p .five) in
+      let x = columnBytes (getD cs i d) in
       let k = width-is (getD cs i d) in
       let m = widths-next cs i d lt in
-      let q = put-then (record { size = refl; is = p .is }) (columnBytes (getD cs i d)) k e (p .stop) (omega (arith, p .stop, p .room)) in
+      let q = put-then (record { size = refl; is = p .is }) x k e (p .stop) (omega (arith, p .stop, p .room)) in
       record {
-        bytes = p .bytes ++ columnBytes (getD cs i d);
+        bytes = p .bytes ++ x;
         five = p .five;
         few = omega arith;
-        long = ap length e ∙ putAt-length b end (columnBytes (getD cs i d)) ∙ p .long;
+        long = ap length e ∙ putAt-length b end x ∙ p .long;
         room = omega (arith, p .room);
         stop = omega (arith, p .stop, q .size);
         is = q .is;
-        whole = p .whole ∙ ap (λ (x : List ℕ). p .bytes ++ x) (bytes-next cs i d lt) ∙ sym (append-assoc (p .bytes) (columnBytes (getD cs i d)) (concat columnBytes (drop (i + 1) cs)));
+        whole = p .whole ∙ ap (λ (y : List ℕ). p .bytes ++ y) (bytes-next cs i d lt) ∙ sym (append-assoc (p .bytes) x (concat columnBytes (drop (i + 1) cs)));
       }
 
   columns-all : 5 ≤ i → concat columnBytes cs ≡ p .bytes
@@ -143,7 +144,8 @@ module _ (l : List ℕ) (at : ℕ) (word : List ℕ) (cs : List Column) {n : ℕ
       let o : length l < at + length (line word cs) = omega arith in
       record { put = kept l at (line word cs) e (omega arith); long = rw (lt-leb (at + length (line word cs)) (length l) o) }
 
-  pub line-in : {a b c : List ℕ} {end i : ℕ} → at + n ≤ length l → a ≡ putAt l at word → Columns a (at + 4) cs b end i → 5 ≤ i → c ≡ putAt b end (10 ∷ []) → LinePut l at (line word cs) c n
+  pub line-in : {a b c : List ℕ} {end i : ℕ} → at + n ≤ length l → a ≡ putAt l at word → Columns a (at + 4) cs b end i → 5 ≤ i → c ≡ putAt b end (10 ∷ [])
+      → LinePut l at (line word cs) c n
   unfolding line
   line-in {a} {b} {c} {end} {i} h w p k g =
       let e = line-length word cs f in

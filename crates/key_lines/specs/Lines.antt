@@ -27,6 +27,13 @@ columnBytes (Start n) = column 21 n
 columnBytes Minus = replicate 10 32 ++ (45 ∷ [])
 columnBytes Nothing = []
 
+-- How many bytes that are.
+abbrev pub widthOf : Column → ℕ
+widthOf (Number n) = 11
+widthOf (Start n) = 21
+widthOf Minus = 11
+widthOf Nothing = 0
+
 -- "It prints a four-letter word and right-justified decimals .. Each line ends with one newline."
 unfoldable pub line : (word : List ℕ) → List Column → List ℕ
 line word columns = word ++ concat columnBytes columns ++ (10 ∷ [])

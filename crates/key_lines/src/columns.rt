@@ -1,12 +1,11 @@
-// Right-justified decimals, put into a lent buffer.
+// A line's columns, put into a lent buffer: right-justified decimals, or `-`.
 use crate::Column;
 use layout::fields::inside;
 use puts::put_bytes;
 ghost use mathlib.Core.Path.{_≡_};
 ghost use lib.ListN.{replicate};
 ghost use Rattle.layout.specs.Puts.{putAt};
-ghost use Rattle.key_lines.specs.Lines.{column, columnBytes};
-ghost use Rattle.key_lines.specs.Widths.{widthOf};
+ghost use Rattle.key_lines.specs.Lines.{column, columnBytes, widthOf};
 
 fn put_blanks(out: &mut [u8], at: usize, n: usize)
     ensures { λ _. ⌜ now (out .exit) ≡ putAt (now (out .entry)) at (replicate n 32) ⌝ }

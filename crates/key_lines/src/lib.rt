@@ -1,4 +1,5 @@
-// The lines of the listing (document 01, "Marking key and estimate"), each put into a lent buffer from an offset on, with its length; where a line does not fit, nothing is put and the length is 0.
+// The lines of the listing (document 01, "Marking key and estimate"), each put into a lent buffer from an offset on.
+// Where a line fits wholly its length is answered; else nothing is put, and 0.
 use crate::line::put_line;
 use layout::BlockHeader;
 use layout::DspFormat;
@@ -9,8 +10,8 @@ ghost use mathlib.Core.Path.{_≡_};
 ghost use Rattle.layout.specs.Records.{lengthIn};
 ghost use Rattle.key_lines.specs.Lines.{stopLine, headLine, loopColumn, blockLine, loopLine, cueLine, LinePut};
 
-pub mod columns; // columns.rt: right-justified decimals
-pub mod line; // line.rt: a word and its columns
+mod columns; // columns.rt: a column, right-justified
+pub mod line; // line.rt: a word, its columns and a newline
 
 // A column: a number of 11 columns, a cue's start of 21, `-` in the last of 11; or no column.
 pub enum Column {
@@ -24,12 +25,8 @@ pub fn put_stop(out: &mut [u8], at: usize, number: u32) -> usize
     ensures { λ n. ⌜ LinePut (now (out .entry)) at (stopLine number) (now (out .exit)) n ⌝ }
 {
     let none = Column::Nothing;
-    put_line(
-        out,
-        at,
-        b"STOP",
-        [Column::Number(number as u64), none, none, none, none],
-    )
+    let columns = [Column::Number(number as u64), none, none, none, none];
+    put_line(out, at, b"STOP", columns)
 }
 
 // The loop block's index, or `-`.
@@ -80,28 +77,19 @@ pub fn put_loop(out: &mut [u8], at: usize, start: u64) -> usize
     ensures { λ n. ⌜ LinePut (now (out .entry)) at (loopLine start) (now (out .exit)) n ⌝ }
 {
     let none = Column::Nothing;
-    put_line(
-        out,
-        at,
-        b"LOOP",
-        [Column::Start(start), none, none, none, none],
-    )
+    let columns = [Column::Start(start), none, none, none, none];
+    put_line(out, at, b"LOOP", columns)
 }
 
 pub fn put_cue(out: &mut [u8], at: usize, start: u64, id: u32) -> usize
     ensures { λ n. ⌜ LinePut (now (out .entry)) at (cueLine start id) (now (out .exit)) n ⌝ }
 {
     let none = Column::Nothing;
+    let number = Column::Number(id as u64);
     put_line(
         out,
         at,
         b"CUEP",
-        [
-            Column::Start(start),
-            Column::Number(id as u64),
-            none,
-            none,
-            none,
-        ],
+        [Column::Start(start), number, none, none, none],
     )
 }

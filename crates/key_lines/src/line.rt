@@ -5,15 +5,14 @@ use crate::columns::width;
 use layout::fields::inside;
 use puts::put_bytes;
 use puts::put_u8;
-ghost use Prim.Native.Nat.{_+_, _≤_};
+ghost use Prim.Native.Nat.{_+_};
 ghost use mathlib.Core.Path.{_≡_};
 ghost use Rattle.layout.specs.Lists.{sum};
-ghost use Rattle.key_lines.specs.Lines.{line, LinePut};
-ghost use Rattle.key_lines.specs.Widths.{widthOf};
+ghost use Rattle.key_lines.specs.Lines.{line, widthOf, LinePut};
 
 // How many bytes the line has.
 fn line_length(columns: [Column; 5]) -> usize
-    ensures { λ n. ⌜ (n ≡ 5 + sum widthOf columns) × (n ≤ 110) ⌝ }
+    ensures { λ n. ⌜ n ≡ 5 + sum widthOf columns ⌝ }
 {
     let mut n: usize = 5;
     let mut i: usize = 0;
@@ -25,7 +24,7 @@ fn line_length(columns: [Column; 5]) -> usize
     n
 }
 
-// Puts the line where it fits, and answers its length; else 0.
+// Puts the line where it fits wholly, and answers its length; else nothing, and 0.
 pub fn put_line(out: &mut [u8], at: usize, word: &[u8; 4], columns: [Column; 5]) -> usize
     ensures { λ n. ⌜ LinePut (now (out .entry)) at (line (now (word .entry)) columns) (now (out .exit)) n ⌝ }
 {

@@ -38,7 +38,9 @@ put-blanks-requires : tie.Need-put-blanks-requires Inv-loop μ-loop
 put-blanks-requires c κs = search needs
 
 same-length : tie.Need-same-length Inv-loop μ-loop
-same-length c = ap length (c .before .before .put-blanks .ensures) ∙ simp (putAt-length, length-set) (c .before .before .before .before .before .before .before .loop .inv .same)
+same-length c =
+    ap length (c .before .before .put-blanks .ensures)
+    ∙ simp (putAt-length, length-set) (c .before .before .before .before .before .before .before .loop .inv .same)
 
 returns : tie.Need-returns Inv-loop μ-loop
 returns c =

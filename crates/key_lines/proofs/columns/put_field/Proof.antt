@@ -4,10 +4,6 @@ use Rattle.puts.proofs.PutLaws.{putAt-none}
 use Rattle.key_lines.proofs.LineLaws.{field-as}
 use Rattle.key_lines.proofs.columns.put_field.Statement.{statement}
 use Rattle.key_lines.proofs.columns.put_field.Tie as tie
-use Rattle.key_lines.proofs.columns.put_field.Reads as reads
-use Rattle.key_lines.proofs.columns.put_field.Lts as lts
-use Rattle.key_lines.proofs.columns.put_column.Reads as put-column-reads
-use Rattle.puts.proofs.put_bytes.Reads as put-bytes-reads
 
 enum-known-column : tie.Need-enum-known-column
 enum-known-column c = search needs

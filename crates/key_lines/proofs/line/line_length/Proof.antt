@@ -4,8 +4,6 @@ use borrow.Author.Needs.{needs}
 use Rattle.key_lines.proofs.LineLaws.{Counted, counted-none, counted-more, counted-most, counted-all}
 use Rattle.key_lines.proofs.line.line_length.Statement.{statement}
 use Rattle.key_lines.proofs.line.line_length.Tie as tie
-use Rattle.key_lines.proofs.line.line_length.Reads as reads
-use Rattle.key_lines.proofs.line.line_length.Lts as lts
 
 abbrev Inv-loop : tie.InvT-loop
 Inv-loop columns n₀ i₀ n i = Counted columns n i
@@ -38,7 +36,7 @@ loop-again : tie.Need-loop-again Inv-loop μ-loop
 loop-again c = counted-more (c .before .before .before .loop .inv) (search needs) _ _ (c .width .ensures)
 
 returns : tie.Need-returns Inv-loop μ-loop
-returns c = (counted-all (c .before .loop .inv) (search needs), counted-most (c .before .loop .inv))
+returns c = counted-all (c .before .loop .inv) (search needs)
 
 pub line-length-spec : {M : Type 1} → statement M
 line-length-spec =

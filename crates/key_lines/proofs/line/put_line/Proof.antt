@@ -7,8 +7,6 @@ use Rattle.layout.proofs.FieldLaws.{passed, failed}
 use Rattle.key_lines.proofs.LineLaws.{Columns, columns-none, columns-more, line-in, line-out}
 use Rattle.key_lines.proofs.line.put_line.Statement.{statement}
 use Rattle.key_lines.proofs.line.put_line.Tie as tie
-use Rattle.key_lines.proofs.line.put_line.Reads as reads
-use Rattle.key_lines.proofs.line.put_line.Lts as lts
 
 abbrev Inv-loop : tie.InvT-loop
 Inv-loop out₀ at word columns n end₀ i₀ out end i = Columns out₀ end₀ columns out end i
@@ -16,7 +14,7 @@ Inv-loop out₀ at word columns n end₀ i₀ out end i = Columns out₀ end₀ 
 abbrev μ-loop : tie.MeasureT-loop
 μ-loop out₀ at word columns n end₀ i₀ out end i = 5 - i
 
-fits : (c : tie.Then1 Inv-loop μ-loop) → c .before .before .before .before .before .args .at + c .before .before .line-length .result ≤ length (now (c .before .before .before .before .before .args .out))
+fits : (c : tie.Then1 Inv-loop μ-loop) → let a = c .before .before .before .before .before .args in a .at + c .before .before .line-length .result ≤ length (now (a .out))
 fits c = passed (c .before .inside .ensures) (c .if1 .taken)
 
 line-length-requires : tie.Need-line-length-requires Inv-loop μ-loop
@@ -29,12 +27,12 @@ put-bytes-requires : tie.Need-put-bytes-requires Inv-loop μ-loop
 put-bytes-requires c κs = search needs
 
 add-end : tie.Need-add-end Inv-loop μ-loop
-add-end c = let h = fits (c .before .before .before .before) in omega (arith, c .before .before .before .before .before .before .line-length .ensures .0)
+add-end c = let h = fits (c .before .before .before .before) in omega (arith, c .before .before .before .before .before .before .line-length .ensures)
 
 loop-holds : tie.Need-loop-holds Inv-loop μ-loop
 loop-holds c =
     let z = c .before .before .before .before in
-    columns-none _ _ _ (search needs) (z .before .before .line-length .ensures .0) (fits z) (c .before .before .put-bytes .ensures)
+    columns-none _ _ _ (search needs) (z .before .before .line-length .ensures) (fits z) (c .before .before .put-bytes .ensures)
 
 loop-again : tie.Need-loop-again Inv-loop μ-loop
 loop-again c =
@@ -72,11 +70,11 @@ returns : tie.Need-returns Inv-loop μ-loop
 returns c =
     let p = c .before .before .before .before .before in
     let z = p .before .before .before .before .before in
-    line-in _ _ _ _ (search needs) (z .before .before .line-length .ensures .0) (fits z) (p .before .before .before .put-bytes .ensures) (p .loop .inv)
+    line-in _ _ _ _ (search needs) (z .before .before .line-length .ensures) (fits z) (p .before .before .before .put-bytes .ensures) (p .loop .inv)
     (c .before .before .before .before .loop-test .left) (c .before .before .put-u8 .ensures)
 
 returns-2 : tie.Need-returns-2 Inv-loop μ-loop
-returns-2 c = line-out _ _ _ _ (search needs) (c .before .before .line-length .ensures .0) (failed (c .before .inside .ensures) (c .if1 .left))
+returns-2 c = line-out _ _ _ _ (search needs) (c .before .before .line-length .ensures) (failed (c .before .inside .ensures) (c .if1 .left))
 
 pub put-line-spec : {M : Type 1} → statement M
 put-line-spec =

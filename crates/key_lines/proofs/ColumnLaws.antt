@@ -34,7 +34,8 @@ put-before l at m bs cs q h =
     let t : take at (take m l ++ cs ++ drop (m + length cs) l) ≡ take at l =
     take-append-le at (take m l ++ cs) (drop (m + length cs) l) al″ ∙ take-append-le at (take m l) cs al′ ∙ take-take at m l al in
     let d : drop (at + length bs) (take m l ++ cs ++ drop (m + length cs) l) ≡ cs ++ drop (m + length cs) l =
-    ap (drop (at + length bs)) (append-assoc (take m l) cs (drop (m + length cs) l)) ∙ drop-at (take m l) (cs ++ drop (m + length cs) l) (at + length bs) (tm ∙ sym q) in
+    ap (drop (at + length bs)) (append-assoc (take m l) cs (drop (m + length cs) l))
+    ∙ drop-at (take m l) (cs ++ drop (m + length cs) l) (at + length bs) (tm ∙ sym q) in
     let e : at + length (bs ++ cs) ≡ m + length cs = omega (arith, length-append bs cs) in
     rw (t, d, e) (simp append-assoc)
 
@@ -56,7 +57,8 @@ pub record Placing (l : List ℕ) (at width n : ℕ) (b : List ℕ) (left k : �
 
 pub placing-none : (l : List ℕ) (at width n : ℕ) → at + width ≤ length l → Placing l at width n l n width
 placing-none l at width n h =
-    record { tail = []; few = omega arith; long = omega arith; inside = h; same = refl; is = sym (put-none l (at + width)); whole = sym (append-nil (column width n)) }
+    let e = append-nil (column width n) in
+    record { tail = []; few = omega arith; long = omega arith; inside = h; same = refl; is = sym (put-none l (at + width)); whole = sym e }
 
 module _ {l : List ℕ} {at width n : ℕ} {b : List ℕ} {left k : ℕ} (p : Placing l at width n b left k) (h : 0 < k) where
   digits : List ℕ
@@ -91,7 +93,8 @@ module _ {l : List ℕ} {at width n : ℕ} {b : List ℕ} {left k : ℕ} (p : Pl
         whole = p .whole ∙ ap (λ (x : List ℕ). x ++ p .tail) (split-more t) ∙ append-assoc (column (k - 1) (left / 10)) ((48 + left % 10) ∷ []) (p .tail);
       }
 
-  pub placing-blank : left < 10 → (d : ℕ) → d ≡ 48 + left % 10 → (c : List ℕ) → c ≡ putAt (set b (at + (k - 1)) d) at (replicate (k - 1) 32) → c ≡ putAt l at (column width n)
+  pub placing-blank : left < 10 → (d : ℕ) → d ≡ 48 + left % 10 → (c : List ℕ) → c ≡ putAt (set b (at + (k - 1)) d) at (replicate (k - 1) 32)
+      → c ≡ putAt l at (column width n)
   unfolding digits
   placing-blank t d g c f =
       let r : length (replicate {A = ℕ} (k - 1) 32) ≡ k - 1 = length-replicate (k - 1) 32 in

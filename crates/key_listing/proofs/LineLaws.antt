@@ -22,7 +22,8 @@ use Rattle.key_listing.specs.declared.listing.Line.{Line}
 use Rattle.key_lines.specs.Lines.{loopLine, cueLine, LinePut}
 use Rattle.key_listing.specs.MarkingKey.{linesFrom, listingFrom}
 use Rattle.key_listing.specs.Filling.{LineIs, FilledIs, lineOr, linesFitting, linesBeyond, lineFitting, linesAfter}
-use Rattle.key_listing.proofs.ListingLaws.{cues-none, cues-refused, cues-end, cues-loop, cues-point, Sized, sized, first-fits, fitting-next, beyond-next, full, fitting-beyond, fitting-fits, none-left}
+use Rattle.key_listing.proofs.ListingLaws.{cues-none, cues-refused, cues-end, cues-loop, cues-point, Sized, sized}
+use Rattle.key_listing.proofs.ListingLaws.{first-fits, fitting-next, beyond-next, full, fitting-beyond, fitting-fits, none-left}
 
 module _ (s : List ℕ) (r : HpsReader) (stage : Stage) (out : List ℕ) (at : ℕ) where
   -- nothing is left
@@ -31,8 +32,8 @@ module _ (s : List ℕ) (r : HpsReader) (stage : Stage) (out : List ℕ) (at : �
   line-done q e h = rw e (record { long = rw h; put = rw h (sym (putAt-none out at)); rest = rw h })
 
   -- the next line, put where it fits
-  pub line-or : (line : List ℕ) (next : Stage) {after : List ℕ} {n : ℕ} → linesFrom s r stage ≡ line ∷ linesFrom s r next → LinePut out at line after n → (q : Line) → q ≡ lineOr n stage next
-      → LineIs s r stage out at after q
+  pub line-or : (line : List ℕ) (next : Stage) {after : List ℕ} {n : ℕ} → linesFrom s r stage ≡ line ∷ linesFrom s r next
+      → LinePut out at line after n → (q : Line) → q ≡ lineOr n stage next → LineIs s r stage out at after q
   unfolding Sized
   line-or line next {after} {n} h p q e =
       let some = (rw h at (sized s r stage)) .0 .0 in
@@ -49,18 +50,17 @@ module _ (s : List ℕ) (r : HpsReader) (stage : Stage) (out : List ℕ) (at : �
       let l : n ≡ 0 = p .long ∙ rw f in
       record { long = rw (h, t) l; put = rw (h, t) (p .put ∙ putAt-out out at line i ∙ sym (putAt-none out at)); rest = rw (h, t, eq-eqb n 0 l) h }))
 
--- the stage that it is
-pub stage-as : (s : List ℕ) (r : HpsReader) (out : List ℕ) (at : ℕ) {t u : Stage} {after : List ℕ} {q : Line} → t ≡ u → LineIs s r u out at after q → LineIs s r t out at after q
-stage-as s r out at e l = rw e l
+module _ (s : List ℕ) (r : HpsReader) (out : List ℕ) (at : ℕ) {after : List ℕ} {q : Line} where
+  -- the stage that it is
+  pub stage-as : {t u : Stage} → t ≡ u → LineIs s r u out at after q → LineIs s r t out at after q
+  stage-as e l = rw e l
 
--- two stages with the same lines
-pub lines-as : (s : List ℕ) (r : HpsReader) (out : List ℕ) (at : ℕ) {t u : Stage} {after : List ℕ} {q : Line} → linesFrom s r t ≡ linesFrom s r u → LineIs s r u out at after q
-    → LineIs s r t out at after q
-lines-as s r out at e l = record { long = rw e (l .long); put = rw e (l .put); rest = rw e (l .rest) }
+  -- two stages with the same lines
+  pub lines-as : {t u : Stage} → linesFrom s r t ≡ linesFrom s r u → LineIs s r u out at after q → LineIs s r t out at after q
+  lines-as e l = record { long = rw e (l .long); put = rw e (l .put); rest = rw e (l .rest) }
 
-pub cursor-as : (s : List ℕ) (r : HpsReader) (out : List ℕ) (at : ℕ) {n : ℕ} {c d : CueIterator} {after : List ℕ} {q : Line} → c ≡ d → LineIs s r (Stage.Cues n c) out at after q
-    → LineIs s r (Stage.Cues n d) out at after q
-cursor-as s r out at e l = rw (← e) l
+  pub cursor-as : {n : ℕ} {c d : CueIterator} → c ≡ d → LineIs s r (Stage.Cues n c) out at after q → LineIs s r (Stage.Cues n d) out at after q
+  cursor-as e l = rw (← e) l
 
 -- ---- Cues
 
@@ -70,48 +70,38 @@ some n h = omega arith
 pub cues-gone : (s : List ℕ) (r : HpsReader) (n : ℕ) (c : CueIterator) → n ≡ 0 → linesFrom s r (Stage.Cues n c) ≡ []
 cues-gone s r n c e = ap (λ (m : ℕ). linesFrom s r (Stage.Cues m c)) e ∙ cues-none s r c
 
-refused-back : (a : CueAnswer) (n : ℕ) → cueReply a ≡ CueReply.Refused n → a ≡ CueAnswer.refused n
-refused-back (CueAnswer.refused m) n e = let x : m ≡ n = cc in ap CueAnswer.refused x
-refused-back CueAnswer.ended n e = absurd (let z : _≡_ {A = ℕ} 0 1 = cc in omega arith)
-refused-back (CueAnswer.loop b) n e = absurd (let z : _≡_ {A = ℕ} 0 1 = cc in omega arith)
-refused-back (CueAnswer.point b k) n e = absurd (let z : _≡_ {A = ℕ} 0 1 = cc in omega arith)
+-- the answer that a reply stands for
+abbrev answerOf : CueReply → CueAnswer
+answerOf (CueReply.Refused n) = CueAnswer.refused n
+answerOf CueReply.End = CueAnswer.ended
+answerOf (CueReply.Loop b) = CueAnswer.loop b
+answerOf (CueReply.Point b k) = CueAnswer.point b k
 
-end-back : (a : CueAnswer) → cueReply a ≡ CueReply.End → a ≡ CueAnswer.ended
-end-back (CueAnswer.refused m) e = absurd (let z : _≡_ {A = ℕ} 0 1 = cc in omega arith)
-end-back CueAnswer.ended e = refl
-end-back (CueAnswer.loop b) e = absurd (let z : _≡_ {A = ℕ} 0 1 = cc in omega arith)
-end-back (CueAnswer.point b k) e = absurd (let z : _≡_ {A = ℕ} 0 1 = cc in omega arith)
-
-loop-back : (a : CueAnswer) (n : ℕ) → cueReply a ≡ CueReply.Loop n → a ≡ CueAnswer.loop n
-loop-back (CueAnswer.refused m) n e = absurd (let z : _≡_ {A = ℕ} 0 1 = cc in omega arith)
-loop-back CueAnswer.ended n e = absurd (let z : _≡_ {A = ℕ} 0 1 = cc in omega arith)
-loop-back (CueAnswer.loop b) n e = let x : b ≡ n = cc in ap CueAnswer.loop x
-loop-back (CueAnswer.point b k) n e = absurd (let z : _≡_ {A = ℕ} 0 1 = cc in omega arith)
-
-point-back : (a : CueAnswer) (n k : ℕ) → cueReply a ≡ CueReply.Point n k → a ≡ CueAnswer.point n k
-point-back (CueAnswer.refused m) n k e = absurd (let z : _≡_ {A = ℕ} 0 1 = cc in omega arith)
-point-back CueAnswer.ended n k e = absurd (let z : _≡_ {A = ℕ} 0 1 = cc in omega arith)
-point-back (CueAnswer.loop b) n k e = absurd (let z : _≡_ {A = ℕ} 0 1 = cc in omega arith)
-point-back (CueAnswer.point b j) n k e = let x : b ≡ n = cc in let y : j ≡ k = cc in λ i. CueAnswer.point (x i) (y i)
+answer-back : (a : CueAnswer) → answerOf (cueReply a) ≡ a
+answer-back (CueAnswer.refused n) = refl
+answer-back CueAnswer.ended = refl
+answer-back (CueAnswer.loop b) = refl
+answer-back (CueAnswer.point b k) = refl
 
 module _ (s : List ℕ) (r : HpsReader) (n : ℕ) (c : CueIterator) (some : 0 < n) (call : CueCall) (e : call ≡ cueCall (cueStep s r c)) where
-  answer : (q : CueReply) → call .reply ≡ q → cueReply (cueStep s r c .answer) ≡ q
-  answer q h = sym (ap (λ (x : CueCall). x .reply) e) ∙ h
+  answer : (q : CueReply) → call .reply ≡ q → cueStep s r c .answer ≡ answerOf q
+  answer q h = sym (answer-back (cueStep s r c .answer)) ∙ ap answerOf (sym (ap (λ (x : CueCall). x .reply) e) ∙ h)
 
   cursor-is : cueStep s r c .after ≡ call .cursor
   cursor-is = sym (ap (λ (x : CueCall). x .cursor) e)
 
   pub after-refused : (k : ℕ) → call .reply ≡ CueReply.Refused k → linesFrom s r (Stage.Cues n c) ≡ []
-  after-refused k h = cues-refused s r n c some k (refused-back _ k (answer _ h))
+  after-refused k h = cues-refused s r n c some k (answer _ h)
 
   pub after-end : call .reply ≡ CueReply.End → linesFrom s r (Stage.Cues n c) ≡ []
-  after-end h = cues-end s r n c some (end-back _ (answer _ h))
+  after-end h = cues-end s r n c some (answer _ h)
 
   pub after-loop : (b : ℕ) → call .reply ≡ CueReply.Loop b → linesFrom s r (Stage.Cues n c) ≡ loopLine b ∷ linesFrom s r (Stage.Cues (n - 1) (call .cursor))
-  after-loop b h = cues-loop s r n c some b (loop-back _ b (answer _ h)) ∙ ap (λ (x : CueIterator). loopLine b ∷ linesFrom s r (Stage.Cues (n - 1) x)) cursor-is
+  after-loop b h = cues-loop s r n c some b (answer _ h) ∙ ap (λ (x : CueIterator). loopLine b ∷ linesFrom s r (Stage.Cues (n - 1) x)) cursor-is
 
-  pub after-point : (b k : ℕ) → call .reply ≡ CueReply.Point b k → linesFrom s r (Stage.Cues n c) ≡ cueLine b k ∷ linesFrom s r (Stage.Cues (n - 1) (call .cursor))
-  after-point b k h = cues-point s r n c some b k (point-back _ b k (answer _ h)) ∙ ap (λ (x : CueIterator). cueLine b k ∷ linesFrom s r (Stage.Cues (n - 1) x)) cursor-is
+  pub after-point : (b k : ℕ) → call .reply ≡ CueReply.Point b k
+      → linesFrom s r (Stage.Cues n c) ≡ cueLine b k ∷ linesFrom s r (Stage.Cues (n - 1) (call .cursor))
+  after-point b k h = cues-point s r n c some b k (answer _ h) ∙ ap (λ (x : CueIterator). cueLine b k ∷ linesFrom s r (Stage.Cues (n - 1) x)) cursor-is
 
 -- ---- Filling
 
@@ -135,7 +125,8 @@ module _ {s : List ℕ} {r : HpsReader} {from : Stage} {before : List ℕ} where
       let z : length before - 0 ≡ length before = omega arith in
       record { lines = []; long = refl; fits = omega arith; same = refl; is = sym (putAt-none before 0); all = rw z; beyond = rw z }
 
-  module _ {out : List ℕ} {stage : Stage} {at : ℕ} (f : Filling s r from before out stage at) {after : List ℕ} {q : Line} (l : LineIs s r stage out at after q) where
+  module _ {out : List ℕ} {stage : Stage} {at : ℕ} (f : Filling s r from before out stage at)
+      {after : List ℕ} {q : Line} (l : LineIs s r stage out at after q) where
     abbrev ls : List (List ℕ)
     ls = linesFrom s r stage
 
@@ -170,12 +161,16 @@ module _ {s : List ℕ} {r : HpsReader} {from : Stage} {before : List ℕ} where
           long = omega arith;
           fits = omega arith;
           same = ap length put-line ∙ putAt-length out at w ∙ f .same;
-          is = put-line ∙ ap (λ (b : List ℕ). putAt b at w) (f .is) ∙ ap (λ (m : ℕ). putAt (putAt before 0 (f .lines)) m w) n ∙ putAt-next before 0 (f .lines) w (omega arith);
+          is =
+              put-line ∙ ap (λ (b : List ℕ). putAt b at w) (f .is) ∙ ap (λ (m : ℕ). putAt (putAt before 0 (f .lines)) m w) n
+              ∙ putAt-next before 0 (f .lines) w (omega arith);
           all =
               f .all ∙ ap (λ (b : List ℕ). f .lines ++ b) (fitting-next room ls ∙ ap (λ (m : ℕ). w ++ linesFitting m (linesAfter room ls)) same-room
               ∙ ap (λ (b : List (List ℕ)). w ++ linesFitting (length before - (at + q .length)) b) (sym rest-line))
               ∙ sym (append-assoc (f .lines) w (linesFitting (length before - (at + q .length)) (linesFrom s r (q .stage))));
-          beyond = f .beyond ∙ beyond-next room ls ∙ ap (λ (m : ℕ). linesBeyond m (linesAfter room ls)) same-room ∙ ap (linesBeyond (length before - (at + q .length))) (sym rest-line);
+          beyond =
+              f .beyond ∙ beyond-next room ls ∙ ap (λ (m : ℕ). linesBeyond m (linesAfter room ls)) same-room
+              ∙ ap (linesBeyond (length before - (at + q .length))) (sym rest-line);
         }
 
     -- no line was put

@@ -80,7 +80,8 @@ module _ (s : List ℕ) (r : HpsReader) where
     unfolding linesFrom cueLines
     cues-end e = ap (λ (m : ℕ). cueLines m s r c) one-more ∙ rw e
 
-    pub cues-loop : (b : ℕ) → cueStep s r c .answer ≡ CueAnswer.loop b → linesFrom s r (Stage.Cues n c) ≡ loopLine b ∷ linesFrom s r (Stage.Cues (n - 1) (cueStep s r c .after))
+    pub cues-loop : (b : ℕ) → cueStep s r c .answer ≡ CueAnswer.loop b
+        → linesFrom s r (Stage.Cues n c) ≡ loopLine b ∷ linesFrom s r (Stage.Cues (n - 1) (cueStep s r c .after))
     unfolding linesFrom cueLines
     cues-loop b e = ap (λ (m : ℕ). cueLines m s r c) one-more ∙ rw e
 
@@ -117,7 +118,8 @@ unfolding Sized blockLines
 sized-blocks s r i [] = sized-cues cueCalls s r (firstCursor r)
 sized-blocks s r i (o ∷ os) = of (readHeader s o) (sized-blocks s r (i + 1) os)
   where
-    of : (h : Read BlockHeader) → Sized (blockLines s r (i + 1) os) → Sized (on h (λ n. []) (λ h. blockLine (channelIn r 0 .format) i o (lengthIn h) (h .cues) ∷ blockLines s r (i + 1) os))
+    of : (h : Read BlockHeader) → Sized (blockLines s r (i + 1) os)
+        → Sized (on h (λ n. []) (λ h. blockLine (channelIn r 0 .format) i o (lengthIn h) (h .cues) ∷ blockLines s r (i + 1) os))
     of (Read.refused n) z = tt
     of (Read.value h) z = sized-more (blockLine (channelIn r 0 .format) i o (lengthIn h) (h .cues))
         (blockLines s r (i + 1) os) 60 (block-length (channelIn r 0 .format) i o (lengthIn h) (h .cues)) (omega arith) (omega arith) z
@@ -125,7 +127,8 @@ sized-blocks s r i (o ∷ os) = of (readHeader s o) (sized-blocks s r (i + 1) os
 pub sized : (s : List ℕ) (r : HpsReader) (stage : Stage) → Sized (linesFrom s r stage)
 unfolding Sized linesFrom openedLines
 sized s r (Stage.Stop n) = sized-more (stopLine n) [] 16 (stop-length n) (omega arith) (omega arith) tt
-sized s r Stage.Head = sized-more (headLine r) (blockLines s r 0 (offsetsFrom r 0)) 49 (head-length r) (omega arith) (omega arith) (sized-blocks s r 0 (offsetsFrom r 0))
+sized s r Stage.Head =
+    sized-more (headLine r) (blockLines s r 0 (offsetsFrom r 0)) 49 (head-length r) (omega arith) (omega arith) (sized-blocks s r 0 (offsetsFrom r 0))
 sized s r (Stage.Blocks i) = sized-blocks s r i (offsetsFrom r i)
 sized s r (Stage.Cues n c) = sized-cues n s r c
 sized s r Stage.Done = tt
@@ -138,7 +141,8 @@ unfolding flatten linesFitting linesBeyond
 fitting-beyond room [] = refl
 fitting-beyond room (l ∷ ls) =
     by-cases (leb (length l) room)
-    (λ t. rw t (ap (λ (x : List ℕ). l ++ x) (fitting-beyond (room - length l) ls) ∙ sym (append-assoc l (linesFitting (room - length l) ls) (flatten (linesBeyond (room - length l) ls)))))
+    (λ t. rw t (ap (λ (x : List ℕ). l ++ x) (fitting-beyond (room - length l) ls)
+    ∙ sym (append-assoc l (linesFitting (room - length l) ls) (flatten (linesBeyond (room - length l) ls)))))
     (λ t. rw t)
 
 pub fitting-fits : (room : ℕ) (ls : List (List ℕ)) → length (linesFitting room ls) ≤ room
@@ -160,7 +164,8 @@ none-left room (l ∷ ls) z h e =
     absurd (omega (arith, rw t at e, length-append l (linesFitting (room - length l) ls)))
 
 -- The first line, and as many as fit after it.
-pub fitting-next : (room : ℕ) (ls : List (List ℕ)) → linesFitting room ls ≡ lineFitting room ls ++ linesFitting (room - length (lineFitting room ls)) (linesAfter room ls)
+pub fitting-next : (room : ℕ) (ls : List (List ℕ))
+    → linesFitting room ls ≡ lineFitting room ls ++ linesFitting (room - length (lineFitting room ls)) (linesAfter room ls)
 unfolding linesFitting
 fitting-next room [] = refl
 fitting-next room (l ∷ ls) = by-cases (leb (length l) room) (λ t. rw t) (λ t. let z : room - 0 ≡ room = omega arith in rw (t, z, t))

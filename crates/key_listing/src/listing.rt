@@ -114,7 +114,8 @@ fn next_line(s: &[u8], r: HpsReader, stage: Stage, out: &mut [u8], at: usize) ->
     }
 }
 
-// As many whole lines as fit, from the buffer's start, their bytes, and the stage after them. A buffer of 60 bytes or more takes a line at least, if one is left.
+// As many whole lines as fit, from the buffer's start, their bytes, and the stage after them.
+// A buffer of 60 bytes or more takes a line at least, if one is left.
 pub fn fill(s: &[u8], r: HpsReader, from: Stage, out: &mut [u8]) -> Line
     requires { ⌜ Readable r ⌝ }
     ensures { λ q. ⌜ FilledIs (now (s .entry)) r from (now (out .entry)) (now (out .exit)) q ⌝ }

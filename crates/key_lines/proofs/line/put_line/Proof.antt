@@ -14,7 +14,8 @@ Inv-loop out₀ at word columns n end₀ i₀ out end i = Columns out₀ end₀ 
 abbrev μ-loop : tie.MeasureT-loop
 μ-loop out₀ at word columns n end₀ i₀ out end i = 5 - i
 
-fits : (c : tie.Then1 Inv-loop μ-loop) → let a = c .before .before .before .before .before .args in a .at + c .before .before .line-length .result ≤ length (now (a .out))
+fits : (c : tie.Then1 Inv-loop μ-loop)
+    → let a = c .before .before .before .before .before .args in a .at + c .before .before .line-length .result ≤ length (now (a .out))
 fits c = passed (c .before .inside .ensures) (c .if1 .taken)
 
 line-length-requires : tie.Need-line-length-requires Inv-loop μ-loop

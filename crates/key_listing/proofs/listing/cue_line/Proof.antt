@@ -11,7 +11,8 @@ no-line-requires c κs = search needs
 returns : tie.Need-returns
 returns c =
     let a = c .before .before .before .before .args in
-    line-done (now (a .s)) (a .r) (Stage.Cues (a .calls) (a .c)) (now (a .out)) (a .at) _ (c .no-line .ensures) (cues-gone (now (a .s)) (a .r) (a .calls) (a .c) (c .before .if1 .taken))
+    line-done (now (a .s)) (a .r) (Stage.Cues (a .calls) (a .c)) (now (a .out)) (a .at) _ (c .no-line .ensures)
+    (cues-gone (now (a .s)) (a .r) (a .calls) (a .c) (c .before .if1 .taken))
 
 next-cue-requires : tie.Need-next-cue-requires
 next-cue-requires c κs = search needs
@@ -54,16 +55,18 @@ put-or-requires-2 c κs = search needs
 
 returns-2 : tie.Need-returns-2
 returns-2 c =
-    let a = c .before .before .before .before .before .before .before .before .args in
+    let e = c .before .before .before .before .before in
+    let a = e .before .before .before .args in
     line-done (now (a .s)) (a .r) (Stage.Cues (a .calls) (a .c)) (now (a .out)) (a .at) _ (c .no-line2 .ensures)
-    (after-refused (now (a .s)) (a .r) (a .calls) (a .c)
-    (some _ (c .before .before .before .before .before .if1 .left)) _ (c .before .before .before .before .next-cue .ensures) _ (c .before .enum-told .given .1))
+    (after-refused (now (a .s)) (a .r) (a .calls) (a .c) (some _ (e .if1 .left)) _ (c .before .before .before .before .next-cue .ensures) _
+    (c .before .enum-told .given .1))
 
 returns-3 : tie.Need-returns-3
 returns-3 c =
-    let a = c .before .before .before .before .before .before .before .before .args in
+    let e = c .before .before .before .before .before in
+    let a = e .before .before .before .args in
     line-done (now (a .s)) (a .r) (Stage.Cues (a .calls) (a .c)) (now (a .out)) (a .at) _ (c .no-line3 .ensures)
-    (after-end (now (a .s)) (a .r) (a .calls) (a .c) (some _ (c .before .before .before .before .before .if1 .left)) _ (c .before .before .before .before .next-cue .ensures)
+    (after-end (now (a .s)) (a .r) (a .calls) (a .c) (some _ (e .if1 .left)) _ (c .before .before .before .before .next-cue .ensures)
     (c .before .enum-told2 .given .1))
 
 same-length : tie.Need-same-length

@@ -23,19 +23,15 @@ same-length c = filling-more (c .before .before .before .before .before .before 
 returns : tie.Need-returns Inv-loop μ-loop
 returns c = filled (c .before .before .before .before .before .before .loop .inv) (c .before .before .before .before .next-line .ensures) (c .if1 .taken)
 
+loop-again : tie.Need-loop-again Inv-loop μ-loop
+loop-again c =
+    filling-more (c .before .before .before .before .before .before .before .loop .inv) (c .before .before .before .before .before .next-line .ensures)
+
 add-at : tie.Need-add-at Inv-loop μ-loop
-add-at c = omega (arith, filling-more (c .before .before .before .before .before .before .before .loop .inv) (c .before .before .before .before .before .next-line .ensures) .fits)
+add-at c = omega (arith, loop-again c .fits)
 
 loop-less : tie.Need-loop-less Inv-loop μ-loop
-loop-less c = omega (
-  arith,
-  filling-more (c .before .before .before .before .before .before .before .loop .inv)
-      (c .before .before .before .before .before .next-line .ensures) .fits,
-  some _ (c .before .if1 .left),
-)
-
-loop-again : tie.Need-loop-again Inv-loop μ-loop
-loop-again c = filling-more (c .before .before .before .before .before .before .before .loop .inv) (c .before .before .before .before .before .next-line .ensures)
+loop-less c = omega (arith, loop-again c .fits, some _ (c .before .if1 .left))
 
 pub fill-spec : {M : Type 1} → statement M
 fill-spec =

@@ -58,7 +58,8 @@ returns c =
     let m = c .before .before .before .before .before .before in
     let a = m .before .before .before .before .args in
     stage-as (now (a .s)) (a .r) (now (a .out)) (a .at) (m .stage .given .1)
-    (line-or (now (a .s)) (a .r) (Stage.Stop _) (now (a .out)) (a .at) _ _ (stop-rest (now (a .s)) (a .r) _) (c .before .before .before .put-stop .ensures) _ (c .put-or .ensures))
+    (line-or (now (a .s)) (a .r) (Stage.Stop _) (now (a .out)) (a .at) _ _ (stop-rest (now (a .s)) (a .r) _)
+    (c .before .before .before .put-stop .ensures) _ (c .put-or .ensures))
 
 same-length-2 : tie.Need-same-length-2
 same-length-2 c = search needs
@@ -68,7 +69,8 @@ returns-2 c =
     let m = c .before .before .before .before .before in
     let a = m .before .before .before .before .args in
     stage-as (now (a .s)) (a .r) (now (a .out)) (a .at) (m .enum-told .given .1)
-    (line-or (now (a .s)) (a .r) Stage.Head (now (a .out)) (a .at) _ _ (head-rest (now (a .s)) (a .r)) (c .before .before .before .put-head .ensures) _ (c .put-or2 .ensures))
+    (line-or (now (a .s)) (a .r) Stage.Head (now (a .out)) (a .at) _ _ (head-rest (now (a .s)) (a .r))
+    (c .before .before .before .put-head .ensures) _ (c .put-or2 .ensures))
 
 same-length-3 : tie.Need-same-length-3
 same-length-3 c = search needs
@@ -76,7 +78,8 @@ same-length-3 c = search needs
 returns-3 : tie.Need-returns-3
 returns-3 c =
     let a = c .before .before .before .before .before .before .before .before .before .before .before .args in
-    stage-as (now (a .s)) (a .r) (now (a .out)) (a .at) (c .before .before .before .before .before .before .before .stage2 .given .1) (c .before .before .block-line .ensures)
+    stage-as (now (a .s)) (a .r) (now (a .out)) (a .at) (c .before .before .before .before .before .before .before .stage2 .given .1)
+    (c .before .before .block-line .ensures)
 
 same-length-4 : tie.Need-same-length-4
 same-length-4 c = search needs
@@ -88,8 +91,8 @@ returns-4 c =
     let e = blocks-past (now (a .s)) (a .r) (shaped (a .r) _ (z .good .1 .0) .offsets) (z .pre .blocks)
     (c .before .before .before .before .before .before .before .before .stage2 .given .0 .0) (omega arith) in
     stage-as (now (a .s)) (a .r) (now (a .out)) (a .at) (c .before .before .before .before .before .before .before .before .stage2 .given .1)
-    (lines-as (now (a .s)) (a .r) (now (a .out)) (a .at) e (cursor-as (now (a .s)) (a .r) (now (a .out)) (a .at) (c .before .before .before .before .first-cursor .ensures)
-    (c .before .before .cue-line .ensures)))
+    (lines-as (now (a .s)) (a .r) (now (a .out)) (a .at) e
+    (cursor-as (now (a .s)) (a .r) (now (a .out)) (a .at) (c .before .before .before .before .first-cursor .ensures) (c .before .before .cue-line .ensures)))
 
 same-length-5 : tie.Need-same-length-5
 same-length-5 c = search needs

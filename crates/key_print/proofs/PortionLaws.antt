@@ -47,7 +47,8 @@ module _ {s : List ℕ} {r : HpsReader} {stage : Stage} {before after : List ℕ
   less-listed h = omega (arith, f .long, ap length (filled-rest f), length-append lines (listingFrom s r (x .stage)))
 
   -- the next portion
-  pub more-filled : {p : Portion} → p .stage ≡ stage → p .end ≤ p .at → 60 ≤ length before → MoreIs s r p before (record { stage = x .stage; at = 0; end = x .length }) after
+  pub more-filled : {p : Portion} → p .stage ≡ stage → p .end ≤ p .at → 60 ≤ length before
+      → MoreIs s r p before (record { stage = x .stage; at = 0; end = x .length }) after
   unfolding stillListed
   more-filled {p} e n b =
       let l : length after ≡ length before = ap length (f .put) ∙ putAt-length before 0 lines in
@@ -55,7 +56,9 @@ module _ {s : List ℕ} {r : HpsReader} {stage : Stage} {before after : List ℕ
       record {
         held = record { order = omega arith; inside = omega (arith, filled-fits f) };
         long = l;
-        same = rw whole (ap (λ (l : List ℕ). l ++ listingFrom s r (x .stage)) first-lines ∙ sym (filled-rest f) ∙ ap (listingFrom s r) (sym e) ∙ sym (used-up s r p before n));
+        same =
+            rw whole (ap (λ (l : List ℕ). l ++ listingFrom s r (x .stage)) first-lines ∙ sym (filled-rest f) ∙ ap (listingFrom s r) (sym e)
+            ∙ sym (used-up s r p before n));
         ended = λ z. rw (← z) (filled-none f b (sym z));
       }
 
@@ -102,7 +105,8 @@ module _ (s : List ℕ) (r : HpsReader) (p : Portion) (out : List ℕ) (h : Held
       ap (λ (n : ℕ). take n (drop (p .at) out)) d
       ∙ take-add k (p .end - (p .at + k)) (drop (p .at) out)
       ∙ rw (drop-drop k (p .at) out, take-take k (p .end - p .at) (drop (p .at) out) (omega arith)) in
-      ap (λ (l : List ℕ). l ++ listingFrom s r (p .stage)) e ∙ append-assoc (take k (bytesOf p out)) (take (p .end - (p .at + k)) (drop (p .at + k) out)) (listingFrom s r (p .stage))
+      ap (λ (l : List ℕ). l ++ listingFrom s r (p .stage)) e
+      ∙ append-assoc (take k (bytesOf p out)) (take (p .end - (p .at + k)) (drop (p .at + k) out)) (listingFrom s r (p .stage))
 
 -- ---- Two listings, compared
 
@@ -111,7 +115,8 @@ pub record Alike (whole other left right : List ℕ) : Type 0 where
   pub back : left ≡ right → whole ≡ other
   pub on : whole ≡ other → left ≡ right
 
-pub alike-start : (a b : List ℕ) (r q : HpsReader) (left right : Portion) (out other : List ℕ) → left .end ≤ left .at → right .end ≤ right .at → Alike (listingFrom a r (left .stage)) (listingFrom b q (right .stage)) (stillListed a r left out) (stillListed b q right other)
+pub alike-start : (a b : List ℕ) (r q : HpsReader) (left right : Portion) (out other : List ℕ) → left .end ≤ left .at → right .end ≤ right .at
+    → Alike (listingFrom a r (left .stage)) (listingFrom b q (right .stage)) (stillListed a r left out) (stillListed b q right other)
 alike-start a b r q left right out other h i =
     rw (used-up a r left out h, used-up b q right other i) (record { back = λ e. e; on = λ e. e })
 
@@ -141,7 +146,8 @@ module _ {a b whole whole2 : List ℕ} {r q : HpsReader} {p p2 left right : Port
       by-cases (eqb (right .at) (right .end))
       (λ t. let v = ap length (now .on z ∙ g .ended (eqb-true _ _ t)) in omega (arith, bytes-left a r left out (f .held)))
       (λ t. let j = eqb-false (right .at) (right .end) t in
-      (rw k at c) .apart (omega arith) (omega arith) (sym (first-left a r left out (f .held) (omega arith)) ∙ ap (λ (v : List ℕ). getD v 0 0) (now .on z) ∙ first-left b q right other (g .held) (omega arith)))
+      (rw k at c) .apart (omega arith) (omega arith) (sym (first-left a r left out (f .held) (omega arith)) ∙ ap (λ (v : List ℕ). getD v 0 0) (now .on z)
+      ∙ first-left b q right other (g .held) (omega arith)))
 
   module _ (k : ℕ) (c : Common (bytesOf left out) (bytesOf right other) k) where
     -- the bytes in common are passed
@@ -149,7 +155,10 @@ module _ {a b whole whole2 : List ℕ} {r q : HpsReader} {p p2 left right : Port
     alike-next =
         let x = passed a r left out (f .held) k (c .here) in
         let y = rw (← c .same) at (passed b q right other (g .held) k (c .there)) in
-        record { back = λ e. now .back (x ∙ ap (λ (l : List ℕ). take k (bytesOf left out) ++ l) e ∙ sym y); on = λ e. append-cancel-left (take k (bytesOf left out)) _ _ (sym x ∙ now .on e ∙ y) }
+        record {
+          back = λ e. now .back (x ∙ ap (λ (l : List ℕ). take k (bytesOf left out) ++ l) e ∙ sym y);
+          on = λ e. append-cancel-left (take k (bytesOf left out)) _ _ (sym x ∙ now .on e ∙ y);
+        }
 
     pub less-left : (k ≡ 0 → ⊥) → length (stillListed a r (past left k) out) < length (stillListed a r p m)
     less-left n =
@@ -158,6 +167,7 @@ module _ {a b whole whole2 : List ℕ} {r q : HpsReader} {p p2 left right : Port
         omega (arith, simp length-append at (ap length (passed a r left out (f .held) k (c .here))))
 
 -- Both are refused with the same number.
-pub same-stops : {x y : Stage} {n m : ℕ} → x ≡ Stage.Stop n → y ≡ Stage.Stop m → n ≡ m → (s t : List ℕ) (r q : HpsReader) → listingFrom s r x ≡ listingFrom t q y
+pub same-stops : {x y : Stage} {n m : ℕ} → x ≡ Stage.Stop n → y ≡ Stage.Stop m → n ≡ m → (s t : List ℕ) (r q : HpsReader)
+    → listingFrom s r x ≡ listingFrom t q y
 unfolding linesFrom
 same-stops d e i s t r q = rw (d, e, i)

@@ -35,7 +35,10 @@ loop-less : tie.Need-loop-less Inv-loop μ-loop
 loop-less c = search needs
 
 loop-again : tie.Need-loop-again Inv-loop μ-loop
-loop-again c = (search needs, (search needs, common-more (c .before .before .before .before .before .before .args .x .now) (c .before .before .before .before .before .before .args .y .now) (c .before .before .before .before .before .loop .k) (omega arith) (omega arith) (c .before .before .before .before .before .loop .inv .1 .1) (c .if2 .left)))
+loop-again c =
+    let z = c .before .before .before .before .before in
+    let a = z .before .args in
+    (search needs, (search needs, common-more (a .x .now) (a .y .now) (z .loop .k) (omega arith) (omega arith) (z .loop .inv .1 .1) (c .if2 .left)))
 
 returns-3 : tie.Need-returns-3 Inv-loop μ-loop
 returns-3 c = search needs

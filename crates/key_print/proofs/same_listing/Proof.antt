@@ -25,11 +25,11 @@ same-lines-requires : tie.Need-same-lines-requires
 same-lines-requires c κs = search needs
 
 returns-2 : tie.Need-returns-2
-returns-2 c = (
-  λ t. sym (ap flatten (c .before .before .before .before .before .before .start-listing .ensures .0)) ∙ c .same-lines .ensures .0 t
-      ∙ ap flatten (c .before .before .before .before .before .start-listing2 .ensures .0),
-  λ t e. c .same-lines .ensures .1 t (ap flatten (c .before .before .before .before .before .before .start-listing .ensures .0) ∙ e ∙ sym (ap flatten (c .before .before .before .before .before .start-listing2 .ensures .0))),
-)
+returns-2 c =
+    let z = c .before .before .before .before .before in
+    let f = ap flatten (z .before .start-listing .ensures .0) in
+    let g = ap flatten (z .start-listing2 .ensures .0) in
+    (λ t. sym f ∙ c .same-lines .ensures .0 t ∙ g, λ t e. c .same-lines .ensures .1 t (f ∙ e ∙ sym g))
 
 pub same-listing-spec : {M : Type 1} → statement M
 same-listing-spec =

@@ -5,7 +5,7 @@ use puts::put_bytes;
 ghost use mathlib.Core.Path.{_≡_};
 ghost use lib.ListN.{replicate};
 ghost use Rattle.layout.specs.Puts.{putAt};
-ghost use Rattle.key_lines.specs.Lines.{column, columnBytes, widthOf};
+ghost use Rattle.key_lines.specs.Lines.{column, FieldPut};
 
 fn put_blanks(out: &mut [u8], at: usize, n: usize)
     ensures { λ _. ⌜ now (out .exit) ≡ putAt (now (out .entry)) at (replicate n 32) ⌝ }
@@ -46,25 +46,23 @@ fn put_column(out: &mut [u8], at: usize, width: usize, n: u64)
     }
 }
 
-// How many bytes a column has.
-pub(crate) fn width(column: Column) -> usize
-    ensures { λ n. ⌜ n ≡ widthOf column ⌝ }
+// Puts a column, and answers how many bytes it has.
+pub(crate) fn put_field(out: &mut [u8], at: usize, column: Column) -> usize
+    ensures { λ n. ⌜ FieldPut (now (out .entry)) at column (now (out .exit)) n ⌝ }
 {
     match column {
-        Column::Number(_) => 11,
-        Column::Start(_) => 21,
-        Column::Minus => 11,
+        Column::Number(n) => {
+            put_column(out, at, 11, n);
+            11
+        }
+        Column::Start(n) => {
+            put_column(out, at, 21, n);
+            21
+        }
+        Column::Minus => {
+            put_bytes(out, at, b"          -");
+            11
+        }
         Column::Nothing => 0,
-    }
-}
-
-pub(crate) fn put_field(out: &mut [u8], at: usize, column: Column)
-    ensures { λ _. ⌜ now (out .exit) ≡ putAt (now (out .entry)) at (columnBytes column) ⌝ }
-{
-    match column {
-        Column::Number(n) => put_column(out, at, 11, n),
-        Column::Start(n) => put_column(out, at, 21, n),
-        Column::Minus => put_bytes(out, at, b"          -"),
-        Column::Nothing => {}
     }
 }

@@ -16,8 +16,10 @@ use Rattle.reader.specs.CuesReadBack.{CueAnswer, firstCursor, cueStep}
 use Rattle.reader.specs.declared.HpsReader.{HpsReader}
 use Rattle.reader.specs.declared.CueIterator.{CueIterator}
 use Rattle.key_listing.specs.declared.Stage.{Stage}
-use Rattle.key_lines.specs.Lines.{stopLine, headLine, blockLine, loopLine, cueLine}
-use Rattle.key_lines.proofs.LineLaws.{stop-length, head-length, block-length, loop-length, cue-length}
+use Rattle.reader.specs.declared.LoopStart.{LoopStart}
+use Rattle.reader.specs.declared.LoopStart.the-variants.{None, Block}
+use Rattle.key_lines.specs.Lines.{columnBytes, loopColumn, stopLine, headLine, blockLine, loopLine, cueLine}
+use Rattle.key_lines.proofs.ColumnLaws.{column-length}
 use Rattle.key_listing.specs.MarkingKey.{onCue, cueCalls, cueLines, blockLines, openedLines, linesFrom}
 use Rattle.key_listing.specs.Filling.{linesFitting, linesBeyond, lineFitting, linesAfter}
 use Rattle.layout.specs.Refusals.{blockLimit}
@@ -105,8 +107,8 @@ sized-cue : (a : CueAnswer) (ls : List (List ℕ)) → Sized ls → Sized (onCue
 unfolding Sized
 sized-cue (CueAnswer.refused n) ls h = tt
 sized-cue CueAnswer.ended ls h = tt
-sized-cue (CueAnswer.loop b) ls h = sized-more (loopLine b) ls 26 (loop-length b) (omega arith) (omega arith) h
-sized-cue (CueAnswer.point b k) ls h = sized-more (cueLine b k) ls 37 (cue-length b k) (omega arith) (omega arith) h
+sized-cue (CueAnswer.loop b) ls h = sized-more (loopLine b) ls 26 (simp (length-append, column-length)) (omega arith) (omega arith) h
+sized-cue (CueAnswer.point b k) ls h = sized-more (cueLine b k) ls 37 (simp (length-append, column-length)) (omega arith) (omega arith) h
 
 sized-cues : (n : ℕ) (s : List ℕ) (r : HpsReader) (c : CueIterator) → Sized (cueLines n s r c)
 unfolding Sized cueLines
@@ -121,14 +123,19 @@ sized-blocks s r i (o ∷ os) = of (readHeader s o) (sized-blocks s r (i + 1) os
     of : (h : Read BlockHeader) → Sized (blockLines s r (i + 1) os)
         → Sized (on h (λ n. []) (λ h. blockLine (channelIn r 0 .format) i o (lengthIn h) (h .cues) ∷ blockLines s r (i + 1) os))
     of (Read.refused n) z = tt
-    of (Read.value h) z = sized-more (blockLine (channelIn r 0 .format) i o (lengthIn h) (h .cues))
-        (blockLines s r (i + 1) os) 60 (block-length (channelIn r 0 .format) i o (lengthIn h) (h .cues)) (omega arith) (omega arith) z
+    of (Read.value h) z =
+        sized-more (blockLine (channelIn r 0 .format) i o (lengthIn h) (h .cues)) (blockLines s r (i + 1) os) 60 (simp (length-append, column-length)) (omega arith) (omega arith) z
+
+loop-width : (l : LoopStart) → length (columnBytes (loopColumn l)) ≡ 11
+loop-width None = refl
+loop-width (Block i) = column-length 11 i
 
 pub sized : (s : List ℕ) (r : HpsReader) (stage : Stage) → Sized (linesFrom s r stage)
 unfolding Sized linesFrom openedLines
-sized s r (Stage.Stop n) = sized-more (stopLine n) [] 16 (stop-length n) (omega arith) (omega arith) tt
+sized s r (Stage.Stop n) = sized-more (stopLine n) [] 16 (simp (length-append, column-length)) (omega arith) (omega arith) tt
 sized s r Stage.Head =
-    sized-more (headLine r) (blockLines s r 0 (offsetsFrom r 0)) 49 (head-length r) (omega arith) (omega arith) (sized-blocks s r 0 (offsetsFrom r 0))
+    sized-more (headLine r) (blockLines s r 0 (offsetsFrom r 0)) 49 (simp (length-append, column-length, loop-width)) (omega arith) (omega arith)
+    (sized-blocks s r 0 (offsetsFrom r 0))
 sized s r (Stage.Blocks i) = sized-blocks s r i (offsetsFrom r i)
 sized s r (Stage.Cues n c) = sized-cues n s r c
 sized s r Stage.Done = tt

@@ -1,6 +1,4 @@
 use borrow.Author.Needs.{needs}
-use Rattle.layout.specs.Lists.{concat}
-use Rattle.key_lines.specs.Lines.{line, blockLine}
 use Rattle.key_lines.proofs.put_block.Statement.{statement}
 use Rattle.key_lines.proofs.put_block.Tie as tie
 
@@ -20,7 +18,6 @@ same-length : tie.Need-same-length
 same-length c = search needs
 
 returns : tie.Need-returns
-unfolding blockLine line concat
 returns c = rw (← c .before .before .before .before .before .num-samples .ensures) (c .before .before .put-line .ensures)
 
 pub put-block-spec : {M : Type 1} → statement M

@@ -1,6 +1,4 @@
 use borrow.Author.Needs.{needs}
-use Rattle.layout.specs.Lists.{concat}
-use Rattle.key_lines.specs.Lines.{line, headLine}
 use Rattle.key_lines.proofs.put_head.Statement.{statement}
 use Rattle.key_lines.proofs.put_head.Tie as tie
 
@@ -17,7 +15,6 @@ same-length : tie.Need-same-length
 same-length c = search needs
 
 returns : tie.Need-returns
-unfolding headLine line concat
 returns c = rw (← c .before .before .before .before .before .loop-column .ensures) (c .before .before .put-line .ensures)
 
 pub put-head-spec : {M : Type 1} → statement M

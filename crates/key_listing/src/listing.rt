@@ -26,18 +26,15 @@ pub struct Line {
     pub stage: Stage,
 }
 
-fn no_line(stage: Stage) -> Line
-    ensures { λ q. ⌜ q ≡ record { length = 0; stage = stage } ⌝ }
-{
-    Line { length: 0, stage }
-}
-
 // A line of n bytes and what comes after it; or, where it was not put, the same stage again.
 fn put_or(n: usize, same: Stage, next: Stage) -> Line
     ensures { λ q. ⌜ q ≡ lineOr n same next ⌝ }
 {
     if n == 0 {
-        return no_line(same);
+        return Line {
+            length: 0,
+            stage: same,
+        };
     }
     Line {
         length: n,
@@ -54,7 +51,10 @@ fn block_line(s: &[u8], r: HpsReader, i: usize, out: &mut [u8], at: usize) -> Li
 {
     let offset = r.offsets[i];
     let HeaderRead::Value(header) = read_header(s, offset) else {
-        return no_line(Stage::Done);
+        return Line {
+            length: 0,
+            stage: Stage::Done,
+        };
     };
     let left = r.channels[0];
     let format = left.format;
@@ -68,14 +68,23 @@ fn cue_line(s: &[u8], r: HpsReader, calls: usize, c: CueIterator, out: &mut [u8]
     ensures { λ q. ⌜ LineIs (now (s .entry)) r (Stage.Cues calls c) (now (out .entry)) at (now (out .exit)) q ⌝ }
 {
     if calls == 0 {
-        return no_line(Stage::Done);
+        return Line {
+            length: 0,
+            stage: Stage::Done,
+        };
     }
     let call = next_cue(s, r, c);
     let reply = call.reply;
     let cursor = call.cursor;
     match reply {
-        CueReply::Refused(_) => no_line(Stage::Done),
-        CueReply::End => no_line(Stage::Done),
+        CueReply::Refused(_) => Line {
+            length: 0,
+            stage: Stage::Done,
+        },
+        CueReply::End => Line {
+            length: 0,
+            stage: Stage::Done,
+        },
         CueReply::Loop(start) => {
             let n = put_loop(out, at, start);
             put_or(n, Stage::Cues(calls, c), Stage::Cues(calls - 1, cursor))
@@ -110,7 +119,10 @@ fn next_line(s: &[u8], r: HpsReader, stage: Stage, out: &mut [u8], at: usize) ->
             }
         }
         Stage::Cues(calls, c) => cue_line(s, r, calls, c, out, at),
-        Stage::Done => no_line(Stage::Done),
+        Stage::Done => Line {
+            length: 0,
+            stage: Stage::Done,
+        },
     }
 }
 

@@ -1,5 +1,5 @@
 use Prim.Native.Nat.{_<_}
-use mathlib.Core.Path.{ap}
+use mathlib.Core.Path.{refl, ap}
 use native.Mathlib.Omega.{arith}
 use lib.ListN.{length}
 use denote.Ref.{now}
@@ -29,16 +29,13 @@ enum-known-header c = search needs
 enum-told : tie.Need-enum-told
 enum-told c = search needs
 
-no-line-requires : tie.Need-no-line-requires
-no-line-requires c κs = search needs
-
 returns : tie.Need-returns
 returns c =
-    let z = c .before .before .before .before .before .before .before in
+    let z = c .before .before .before .before .before .before in
     let a = z .args in
-    line-done (now (a .s)) (a .t2) (Stage.Blocks (a .i)) (now (a .out)) (a .at) _ (c .no-line .ensures)
+    line-done (now (a .s)) (a .t2) (Stage.Blocks (a .i)) (now (a .out)) (a .at) _ refl
     (block-short (now (a .s)) (a .t2) (shaped (a .t2) _ (z .good .1 .0) .offsets) (z .pre .0 .blocks) (a .i)
-    (z .pre .1) _ (header-short _ _ (c .before .before .before .read-header .ensures) (c .before .enum-told .given .1)))
+    (z .pre .1) _ (header-short _ _ (c .before .before .read-header .ensures) (c .enum-told .given .1)))
 
 element-copy-out-left : tie.Need-element-copy-out-left
 element-copy-out-left c = search needs
@@ -76,7 +73,6 @@ block-line-spec =
     read-header-requires
     enum-known-header
     enum-told
-    no-line-requires
     returns
     element-copy-out-left
     put-block-requires

@@ -1,3 +1,4 @@
+use mathlib.Core.Path.{refl}
 use denote.Ref.{now}
 use Rattle.key_listing.specs.declared.Stage.{Stage}
 use Rattle.key_listing.proofs.LineLaws.{line-done, line-or, some, cues-gone, after-refused, after-end, after-loop, after-point}
@@ -5,14 +6,11 @@ use borrow.Author.Needs.{needs}
 use Rattle.key_listing.proofs.listing.cue_line.Statement.{statement}
 use Rattle.key_listing.proofs.listing.cue_line.Tie as tie
 
-no-line-requires : tie.Need-no-line-requires
-no-line-requires c κs = search needs
-
 returns : tie.Need-returns
 returns c =
-    let a = c .before .before .before .before .args in
-    line-done (now (a .s)) (a .r) (Stage.Cues (a .calls) (a .c)) (now (a .out)) (a .at) _ (c .no-line .ensures)
-    (cues-gone (now (a .s)) (a .r) (a .calls) (a .c) (c .before .if1 .taken))
+    let a = c .before .before .before .args in
+    line-done (now (a .s)) (a .r) (Stage.Cues (a .calls) (a .c)) (now (a .out)) (a .at) _ refl
+    (cues-gone (now (a .s)) (a .r) (a .calls) (a .c) (c .if1 .taken))
 
 next-cue-requires : tie.Need-next-cue-requires
 next-cue-requires c κs = search needs
@@ -20,14 +18,8 @@ next-cue-requires c κs = search needs
 enum-told : tie.Need-enum-told
 enum-told c = search needs
 
-no-line-requires-2 : tie.Need-no-line-requires-2
-no-line-requires-2 c κs = search needs
-
 enum-told-2 : tie.Need-enum-told-2
 enum-told-2 c = search needs
-
-no-line-requires-3 : tie.Need-no-line-requires-3
-no-line-requires-3 c κs = search needs
 
 enum-known-reply : tie.Need-enum-known-reply
 enum-known-reply c = search needs
@@ -55,19 +47,19 @@ put-or-requires-2 c κs = search needs
 
 returns-2 : tie.Need-returns-2
 returns-2 c =
-    let e = c .before .before .before .before .before in
+    let e = c .before .before .before .before in
     let a = e .before .before .before .args in
-    line-done (now (a .s)) (a .r) (Stage.Cues (a .calls) (a .c)) (now (a .out)) (a .at) _ (c .no-line2 .ensures)
-    (after-refused (now (a .s)) (a .r) (a .calls) (a .c) (some _ (e .if1 .left)) _ (c .before .before .before .before .next-cue .ensures) _
-    (c .before .enum-told .given .1))
+    line-done (now (a .s)) (a .r) (Stage.Cues (a .calls) (a .c)) (now (a .out)) (a .at) _ refl
+    (after-refused (now (a .s)) (a .r) (a .calls) (a .c) (some _ (e .if1 .left)) _ (c .before .before .before .next-cue .ensures) _
+    (c .enum-told .given .1))
 
 returns-3 : tie.Need-returns-3
 returns-3 c =
-    let e = c .before .before .before .before .before in
+    let e = c .before .before .before .before in
     let a = e .before .before .before .args in
-    line-done (now (a .s)) (a .r) (Stage.Cues (a .calls) (a .c)) (now (a .out)) (a .at) _ (c .no-line3 .ensures)
-    (after-end (now (a .s)) (a .r) (a .calls) (a .c) (some _ (e .if1 .left)) _ (c .before .before .before .before .next-cue .ensures)
-    (c .before .enum-told2 .given .1))
+    line-done (now (a .s)) (a .r) (Stage.Cues (a .calls) (a .c)) (now (a .out)) (a .at) _ refl
+    (after-end (now (a .s)) (a .r) (a .calls) (a .c) (some _ (e .if1 .left)) _ (c .before .before .before .next-cue .ensures)
+    (c .enum-told2 .given .1))
 
 same-length : tie.Need-same-length
 same-length c = search needs
@@ -97,13 +89,10 @@ pub cue-line-spec : {M : Type 1} → statement M
 cue-line-spec =
     tie.close
     (tie.spec
-    no-line-requires
     returns
     next-cue-requires
     enum-told
-    no-line-requires-2
     enum-told-2
-    no-line-requires-3
     enum-known-reply
     put-loop-requires
     sub-t23

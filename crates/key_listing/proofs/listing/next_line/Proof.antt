@@ -1,3 +1,4 @@
+use mathlib.Core.Path.{refl}
 use native.Mathlib.Omega.{arith}
 use denote.Ref.{now}
 use Rattle.reader.proofs.RecordLaws.{shaped}
@@ -46,9 +47,6 @@ cue-line-requires-2 c κs = search needs
 
 enum-told-2 : tie.Need-enum-told-2
 enum-told-2 c = search needs
-
-no-line-requires : tie.Need-no-line-requires
-no-line-requires c κs = search needs
 
 same-length : tie.Need-same-length
 same-length c = search needs
@@ -104,9 +102,9 @@ returns-5 c =
 
 returns-6 : tie.Need-returns-6
 returns-6 c =
-    let a = c .before .before .before .before .before .args in
-    stage-as (now (a .s)) (a .r) (now (a .out)) (a .at) (c .before .enum-told2 .given .1)
-    (line-done (now (a .s)) (a .r) Stage.Done (now (a .out)) (a .at) _ (c .no-line .ensures) (done-rest (now (a .s)) (a .r)))
+    let a = c .before .before .before .before .args in
+    stage-as (now (a .s)) (a .r) (now (a .out)) (a .at) (c .enum-told2 .given .1)
+    (line-done (now (a .s)) (a .r) Stage.Done (now (a .out)) (a .at) _ refl (done-rest (now (a .s)) (a .r)))
 
 pub next-line-spec : {M : Type 1} → statement M
 next-line-spec =
@@ -125,7 +123,6 @@ next-line-spec =
     enum-known-stage-3
     cue-line-requires-2
     enum-told-2
-    no-line-requires
     same-length
     returns
     same-length-2

@@ -1,4 +1,4 @@
--- Columns put one after the other, and how long lines are.
+-- Columns put one after the other into a line, and the line put.
 use Prim.Native.Nat.{ℕ, _+_, _*_, _<_, _≤_}
 use mathlib.Core.Path.{_≡_, refl, ap, sym, _∙_}
 use mathlib.Core.List.{List, [], _∷_, _++_, append-assoc, append-nil}

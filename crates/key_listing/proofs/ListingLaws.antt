@@ -124,7 +124,8 @@ sized-blocks s r i (o ∷ os) = of (readHeader s o) (sized-blocks s r (i + 1) os
         → Sized (on h (λ n. []) (λ h. blockLine (channelIn r 0 .format) i o (lengthIn h) (h .cues) ∷ blockLines s r (i + 1) os))
     of (Read.refused n) z = tt
     of (Read.value h) z =
-        sized-more (blockLine (channelIn r 0 .format) i o (lengthIn h) (h .cues)) (blockLines s r (i + 1) os) 60 (simp (length-append, column-length)) (omega arith) (omega arith) z
+        sized-more (blockLine (channelIn r 0 .format) i o (lengthIn h) (h .cues)) (blockLines s r (i + 1) os) 60
+        (simp (length-append, column-length)) (omega arith) (omega arith) z
 
 loop-width : (l : LoopStart) → length (columnBytes (loopColumn l)) ≡ 11
 loop-width None = refl

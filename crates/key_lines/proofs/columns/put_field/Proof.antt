@@ -35,19 +35,23 @@ same-length : tie.Need-same-length
 same-length c = search needs
 
 returns : tie.Need-returns
-returns c = field-as _ _ _ 11 (c .before .before .before .before .before .column .given .1) (c .before .before .put-column .ensures) (column-length 11 _) (omega arith)
+returns c =
+    field-as _ _ _ 11 (c .before .before .before .before .before .column .given .1) (c .before .before .put-column .ensures) (column-length 11 _) (omega arith)
 
 same-length-2 : tie.Need-same-length-2
 same-length-2 c = search needs
 
 returns-2 : tie.Need-returns-2
-returns-2 c = field-as _ _ _ 21 (c .before .before .before .before .before .column2 .given .1) (c .before .before .put-column2 .ensures) (column-length 21 _) (omega arith)
+returns-2 c =
+    field-as _ _ _ 21 (c .before .before .before .before .before .column2 .given .1) (c .before .before .put-column2 .ensures) (column-length 21 _)
+    (omega arith)
 
 same-length-3 : tie.Need-same-length-3
 same-length-3 c = search needs
 
 returns-3 : tie.Need-returns-3
-returns-3 c = field-as _ _ _ 11 (c .before .before .before .before .before .enum-told .given .1) (c .before .before .put-bytes .ensures) refl (omega arith)
+returns-3 c =
+    field-as _ _ _ 11 (c .before .before .before .before .before .enum-told .given .1) (c .before .before .put-bytes .ensures) refl (omega arith)
 
 returns-4 : tie.Need-returns-4
 returns-4 c = field-as _ _ _ 0 (c .enum-told2 .given .1) (sym (putAt-none _ _)) refl (omega arith)

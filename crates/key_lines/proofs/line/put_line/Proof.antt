@@ -80,14 +80,16 @@ returns c =
     let t = c .before .before .before .before .before in
     let e = t .before .before in
     let d = e .before .before .before in
-    line-in _ _ (columns-all (d .before .loop .inv) _ _ (d .loop-test .left) (search needs) (search needs) (d .before .before .before .put-bytes .ensures) (e .before .put-u8 .ensures))
+    line-in _ _ (columns-all (d .before .loop .inv) _ _ (d .loop-test .left) (search needs) (search needs) (d .before .before .before .put-bytes .ensures)
+    (e .before .put-u8 .ensures))
     (passed (t .before .inside .ensures) (t .if1 .taken)) (c .before .before .put-bytes2 .ensures)
 
 returns-2 : tie.Need-returns-2 Inv-loop μ-loop
 returns-2 c =
     let e = c .before .before in
     let d = e .before .before .before in
-    line-out _ _ (columns-all (d .before .loop .inv) _ _ (d .loop-test .left) (search needs) (search needs) (d .before .before .before .put-bytes .ensures) (e .before .put-u8 .ensures))
+    line-out _ _ (columns-all (d .before .loop .inv) _ _ (d .loop-test .left) (search needs) (search needs) (d .before .before .before .put-bytes .ensures)
+    (e .before .put-u8 .ensures))
     (failed (c .before .inside .ensures) (c .if1 .left))
 
 pub put-line-spec : {M : Type 1} → statement M

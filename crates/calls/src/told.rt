@@ -1,7 +1,8 @@
 // What is told of a call.
+use key_lines::Column;
 use noted::Noted;
 use script::kinds::Kind;
-use telling::print_numbers;
+use telling::print_line;
 use writer::MOST_WRITES;
 use writer::Place;
 use writer::Reply;
@@ -14,23 +15,22 @@ pub struct Voice {
 
 // DONE and the call's number, of finish the length too; or STOP, the number and the refusal.
 fn tell_reply(fd: i32, call: u64, reply: Reply) {
+    let number = Column::Number(call);
+    let none = Column::Nothing;
     match reply {
-        Reply::Refused(number) => print_numbers(fd, b"STOP", [call, number as u64, 0], 2),
-        Reply::NoWrite => print_numbers(fd, b"DONE", [call, 0, 0], 1),
-        Reply::OneWrite(_) => print_numbers(fd, b"DONE", [call, 0, 0], 1),
+        Reply::Refused(why) => print_line(fd, b"STOP", number, Column::Number(why as u64), none),
+        Reply::NoWrite => print_line(fd, b"DONE", number, none, none),
+        Reply::OneWrite(_) => print_line(fd, b"DONE", number, none, none),
         Reply::ThreeWrites(length, _, _, _) => {
-            print_numbers(fd, b"DONE", [call, length as u64, 0], 2)
+            print_line(fd, b"DONE", number, Column::Number(length as u64), none)
         }
     }
 }
 
 fn tell_write(fd: i32, call: u64, place: Place) {
-    print_numbers(
-        fd,
-        b"WRIT",
-        [call, place.offset as u64, place.length as u64],
-        3,
-    );
+    let offset = Column::Number(place.offset as u64);
+    let length = Column::Number(place.length as u64);
+    print_line(fd, b"WRIT", Column::Number(call), offset, length);
 }
 
 // The writes noted from here on.

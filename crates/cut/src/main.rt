@@ -6,9 +6,9 @@ use cuts::files::script_room;
 use io::buffer;
 use io::read_full;
 use io::write_all;
+use key_print::slot_room;
 use libc::STDERR_FILENO;
 use libc::STDOUT_FILENO;
-use printing::slot_room;
 use words::numbers::Number;
 use words::numbers::unsigned;
 

@@ -17,7 +17,7 @@ use Rattle.puts.proofs.PutLaws.{putAt-in, putAt-length}
 use Rattle.writer.specs.WritesAndCuttingRule.{Write, writesIn}
 use Rattle.tearing.specs.Moments.{slotAt}
 use Rattle.tearing.proofs.MomentLaws.{slot-start}
-use Rattle.listing.specs.MarkingKey.{listing}
+use Rattle.key_listing.specs.MarkingKey.{listing}
 use Rattle.noted.specs.Noted.{notedIn}
 use Rattle.noted.specs.declared.Noted.{Noted}
 use Rattle.calls.specs.Script.{scriptWrites}

@@ -6,7 +6,7 @@ use mathlib.Core.Logic.{_⊎_}
 use lib.ListN.{length}
 use Rattle.writer.specs.WritesAndCuttingRule.{Write}
 use Rattle.tearing.specs.Moments.{slotAt}
-use Rattle.listing.specs.MarkingKey.{listing}
+use Rattle.key_listing.specs.MarkingKey.{listing}
 use Rattle.calls.specs.Script.{scriptWrites}
 
 -- "A moment is the number of bytes of all writes, in order, that had reached the slot when the power failed": the slot then

@@ -5,14 +5,15 @@ use calls::loading::load;
 use calls::told::Voice;
 use io::print_decimal;
 use io::write_all;
+use key_lines::Column;
+use key_print::print_listing;
+use key_print::slot_room;
 use libc::STDERR_FILENO;
 use noted::Noted;
-use printing::print_listing;
-use printing::slot_room;
 use puts::put_bytes;
 use script::whole::wrong_line;
 use tearing::slot_at;
-use telling::print_numbers;
+use telling::print_line;
 
 pub mod files; // files.rt: files by name
 pub mod times; // times.rt: the runs of moments with the same listing
@@ -122,7 +123,8 @@ pub fn answer(fd: i32, earlier: &[u8], text: &[u8], ask: Ask) {
     }
     let wrong = wrong_line(text);
     if wrong != 0 {
-        print_numbers(fd, b"LINE", [wrong as u64, 0, 0], 1);
+        let none = Column::Nothing;
+        print_line(fd, b"LINE", Column::Number(wrong as u64), none, none);
         return;
     }
     answer_script(fd, earlier, text, ask);

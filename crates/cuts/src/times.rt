@@ -1,17 +1,18 @@
 // The runs of moments with the same listing.
+use key_lines::Column;
+use key_print::print_listing;
+use key_print::same_listing;
+use key_print::slot_room;
 use noted::Noted;
-use printing::print_listing;
-use printing::same_listing;
-use printing::slot_room;
 use puts::put_bytes;
 use tearing::next_moment;
-use telling::print_numbers;
+use telling::print_line;
 ghost use mathlib.Core.Path.{_≡_};
 ghost use mathlib.Core.List.{List};
 ghost use Prim.Native.Nat.{ℕ, _≤_};
 ghost use lib.ListN.{length};
 ghost use Rattle.tearing.specs.Moments.{slotAt};
-ghost use Rattle.listing.specs.MarkingKey.{listing};
+ghost use Rattle.key_listing.specs.MarkingKey.{listing};
 ghost use Rattle.noted.specs.Noted.{notedIn, Listed};
 ghost use Rattle.calls.specs.Script.{scriptWrites};
 ghost use Rattle.cuts.specs.Moments.{Run, RunEnds};
@@ -20,7 +21,14 @@ ghost use Rattle.cuts.specs.Moments.{Run, RunEnds};
 fn print_run(fd: i32, earlier: &[u8], text: &[u8], from: usize, last: usize, slot: &[u8])
     requires { ⌜ Run (now earlier) (now text) from last (listing (now slot)) ⌝ }
 {
-    print_numbers(fd, b"TIME", [from as u64, last as u64, 0], 2);
+    let first = Column::Number(from as u64);
+    print_line(
+        fd,
+        b"TIME",
+        first,
+        Column::Number(last as u64),
+        Column::Nothing,
+    );
     print_listing(fd, slot);
 }
 

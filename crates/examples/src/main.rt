@@ -5,8 +5,8 @@ use cuts::answer;
 use cuts::files::read_file;
 use io::large_buffer;
 use io::write_all;
+use key_print::slot_room;
 use libc::STDOUT_FILENO;
-use printing::slot_room;
 
 // Whether two files are the same; what they have past 65,536 bytes is not looked at.
 fn same_files(one: &[u8], two: &[u8]) -> bool {

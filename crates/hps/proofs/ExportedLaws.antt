@@ -20,10 +20,10 @@ use Rattle.estimate.specs.declared.EstimateReply.{EstimateReply}
 use Rattle.reader.specs.OpeningAndReading.{Opened, blockRead, Remaining}
 use Rattle.kept_reader.specs.KeptReader.{openedBytes, openedSize}
 use Rattle.reader.specs.declared.HpsReader.{HpsReader}
-use Rattle.listing.specs.MarkingKey.{listingLines, linesFrom}
-use Rattle.listing.specs.Filling.{FilledIs, linesFitting}
-use Rattle.listing.specs.declared.Stage.{Stage}
-use Rattle.listing.specs.declared.listing.Line.{Line}
+use Rattle.key_listing.specs.MarkingKey.{listingLines, linesFrom}
+use Rattle.key_listing.specs.Filling.{FilledIs, linesFitting}
+use Rattle.key_listing.specs.declared.Stage.{Stage}
+use Rattle.key_listing.specs.declared.listing.Line.{Line}
 use Rattle.hps.specs.Exported.{numberOf, lengthAfter, openNumber, keptAfter, onRecord, BlockLent, blockLent, addressesAfter, pushNumber}
 
 -- ---- The estimate

@@ -9,9 +9,9 @@ use kept_cues::cue_calls;
 use kept_opened::put_opened;
 use kept_reader::opened::OPENED_SIZE;
 use kept_reader::opened::reader_in;
+use key_listing::listing::fill;
+use key_listing::start::start_listing;
 use layout::limits::BLOCK_LIMIT;
-use listing::listing::fill;
-use listing_start::start_listing;
 use opening::open;
 use reader::answers::OpenReply;
 use remaining::RemainingReply;
@@ -24,8 +24,8 @@ ghost use Rattle.kept_reader.specs.KeptReader.{readerIn};
 ghost use Rattle.kept_cues.specs.KeptCues.{CuesLent, cuesNumber, cuesLent};
 ghost use Rattle.hps.specs.Exported.{openNumber, keptAfter, onRecord, blockNumber, BlockLent, blockLent, remainingNumber, addressesAfter};
 ghost use Rattle.layout.specs.Puts.{putAt};
-ghost use Rattle.listing.specs.MarkingKey.{listingLines};
-ghost use Rattle.listing.specs.Filling.{linesFitting};
+ghost use Rattle.key_listing.specs.MarkingKey.{listingLines};
+ghost use Rattle.key_listing.specs.Filling.{linesFitting};
 ghost use Rattle.layout.specs.Refusals.{blockLimit};
 
 // Opens a slot, and keeps the record in the lent bytes.

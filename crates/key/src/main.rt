@@ -1,9 +1,9 @@
 // The marking key: the listing of the slot on standard input, on standard output.
 use io::read_full;
+use key_print::print_listing;
+use key_print::slot_room;
 use libc::STDIN_FILENO;
 use libc::STDOUT_FILENO;
-use printing::print_listing;
-use printing::slot_room;
 
 fn main() {
     let mut slot = slot_room();

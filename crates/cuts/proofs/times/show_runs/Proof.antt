@@ -3,7 +3,7 @@ use Prim.Native.Nat.{_+_, _-_}
 use mathlib.Core.Path.{ap, sym, _∙_}
 use lib.ListN.{length}
 use denote.Ref.{now}
-use Rattle.listing.specs.MarkingKey.{listing}
+use Rattle.key_listing.specs.MarkingKey.{listing}
 use Rattle.cuts.specs.Moments.{RunEnds}
 use native.Mathlib.Omega.{arith}
 use Rattle.noted.specs.Noted.{notedIn}
@@ -17,7 +17,6 @@ Inv-loop fd earlier text slot₀ first₀ j kept total from₀ slot first from =
 abbrev μ-loop : tie.MeasureT-loop
 μ-loop fd earlier text slot₀ first₀ j kept total from₀ slot first from = total + 1 - from
 
--- src/times.rt:61:5
 loop-holds : tie.Need-loop-holds Inv-loop μ-loop
 loop-holds c = showing-none (c .before .before .before .before .before .pre .1 .0) (c .before .before .before .before .before .pre .1 .1)
 
@@ -25,39 +24,30 @@ run : (c : tie.After-run-end Inv-loop μ-loop)
     → RunEnds (now (c .before .before .before .before .before .before .before .before .before .before .args .earlier)) (notedIn (c .before .before .before .before .before .before .before .before .before .before .args .j) (now (c .before .before .before .before .before .before .before .before .before .before .args .kept))) (c .before .before .before .before .loop .from) (c .before .before .before .before .before .before .before .before .before .before .args .j .total) (listing (c .before .before .before .before .loop .first)) (c .run-end .result) (c .run-end .last .0)
 run c = c .run-end .ensures _ (c .before .before .before .before .loop .inv .here (c .before .before .before .loop-test .taken)) (c .before .before .before .before .loop .inv .same (c .before .before .before .loop-test .taken))
 
--- src/times.rt:62:13
 run-end-requires : tie.Need-run-end-requires Inv-loop μ-loop
 run-end-requires c κs = (c .before .before .before .before .before .before .before .before .before .pre .0 .0, c .before .before .loop-test .taken)
 
--- src/times.rt:63:44
 sub-print-run : tie.Need-sub-print-run Inv-loop μ-loop
 sub-print-run c = omega (arith, run (c .before .before) .later)
 
--- src/times.rt:63:9
 print-run-requires : tie.Need-print-run-requires Inv-loop μ-loop
 print-run-requires c κs = is-run _ (c .before .before .before .before .before .before .before .before .before .before .before .before .before .pre .0 .1) (run (c .before .before .before))
 
--- src/times.rt:64:9
 put-bytes-requires : tie.Need-put-bytes-requires Inv-loop μ-loop
 put-bytes-requires c κs = search needs
 
--- src/times.rt:61:5
 loop-less : tie.Need-loop-less Inv-loop μ-loop
 loop-less c = let r = run (c .before .before .before .before .before .before .before .before .before) in let g = c .before .before .before .before .before .before .before .before .before .before .before .before .before .loop .inv in omega (arith, r .later, g .below, c .before .before .before .before .before .before .before .before .before .before .before .before .loop-test .taken)
 
--- src/times.rt:61:5
 loop-again : tie.Need-loop-again Inv-loop μ-loop
 loop-again c = showing-more (c .before .before .before .before .before .before .before .before .before .before .before .before .before .loop .inv) (search needs) (run (c .before .before .before .before .before .before .before .before .before)) (c .before .before .put-bytes .ensures)
 
--- src/times.rt:47:1
 same-length : tie.Need-same-length Inv-loop μ-loop
 same-length c = c .before .loop .inv .long ∙ sym (ap length (c .before .before .before .before .before .before .before .pre .1 .0))
 
--- src/times.rt:47:1
 same-length-2 : tie.Need-same-length-2 Inv-loop μ-loop
 same-length-2 c = c .before .loop .inv .copy ∙ sym (ap length (c .before .before .before .before .before .before .before .pre .1 .1))
 
--- src/times.rt:47:1
 returns : tie.Need-returns Inv-loop μ-loop
 returns c = tt
 

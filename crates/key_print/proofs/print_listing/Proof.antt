@@ -1,0 +1,69 @@
+use borrow.Author.Needs.{needs}
+use mathlib.Core.Path.{_≡_}
+use lib.ListN.{length}
+use Rattle.key_listing.specs.MarkingKey.{listingFrom}
+use Rattle.key_listing.proofs.LineLaws.{filled-inside, filled-prefix}
+use Rattle.key_print.proofs.PortionLaws.{less-listed}
+use Rattle.key_print.proofs.print_listing.Statement.{statement}
+use Rattle.key_print.proofs.print_listing.Tie as tie
+
+abbrev Inv-loop : tie.InvT-loop
+Inv-loop fd s r stage₀ out₀ stage out = length out ≡ 65536
+
+abbrev μ-loop : tie.MeasureT-loop
+μ-loop fd s r stage₀ out₀ stage out = length (listingFrom s r stage)
+
+start-listing-requires : tie.Need-start-listing-requires Inv-loop μ-loop
+start-listing-requires c κs = search needs
+
+large-buffer-requires : tie.Need-large-buffer-requires Inv-loop μ-loop
+large-buffer-requires c κs = search needs
+
+loop-holds : tie.Need-loop-holds Inv-loop μ-loop
+loop-holds c = search needs
+
+slice-aggregate-fill : tie.Need-slice-aggregate-fill Inv-loop μ-loop
+slice-aggregate-fill c = search needs
+
+fill-requires : tie.Need-fill-requires Inv-loop μ-loop
+fill-requires c κs = search needs
+
+returns : tie.Need-returns Inv-loop μ-loop
+returns c = search needs
+
+array-share-prefix-out : tie.Need-array-share-prefix-out Inv-loop μ-loop
+array-share-prefix-out c = filled-inside (c .before .before .fill .ensures)
+
+slice-aggregate-write-all : tie.Need-slice-aggregate-write-all Inv-loop μ-loop
+slice-aggregate-write-all c = filled-prefix (c .before .before .before .fill .ensures)
+
+write-all-requires : tie.Need-write-all-requires Inv-loop μ-loop
+write-all-requires c κs = search needs
+
+returns-2 : tie.Need-returns-2 Inv-loop μ-loop
+returns-2 c = search needs
+
+loop-less : tie.Need-loop-less Inv-loop μ-loop
+loop-less c = less-listed (c .before .before .before .before .before .fill .ensures) (c .before .before .before .if1 .left)
+
+loop-again : tie.Need-loop-again Inv-loop μ-loop
+loop-again c = search needs
+
+pub print-listing-spec : {M : Type 1} → statement M
+print-listing-spec =
+    tie.close
+    (tie.spec
+    Inv-loop
+    μ-loop
+    start-listing-requires
+    large-buffer-requires
+    loop-holds
+    slice-aggregate-fill
+    fill-requires
+    returns
+    array-share-prefix-out
+    slice-aggregate-write-all
+    write-all-requires
+    returns-2
+    loop-less
+    loop-again)

@@ -1,0 +1,155 @@
+// Listings, printed.
+use io::large_buffer;
+use io::write_all;
+use key_listing::Stage;
+use key_listing::listing::fill;
+use key_listing::start::start_listing;
+use reader::HpsReader;
+ghost use mathlib.Core.Path.{_≡_};
+ghost use mathlib.Core.Bool.{true, false};
+ghost use mathlib.Core.List.{List};
+ghost use Prim.Native.Nat.{ℕ, _≤_};
+ghost use lib.ListN.{length};
+ghost use Rattle.reader.specs.OpeningAndReading.{Readable};
+ghost use Rattle.reader.specs.declared.HpsReader.{HpsReader};
+ghost use Rattle.key_listing.specs.MarkingKey.{listing, listingFrom};
+ghost use Rattle.key_print.specs.Portions.{Held, MoreIs, Common};
+
+// Room for a slot: one byte more than is listed, so that a longer slot is seen to be longer.
+pub fn slot_room() -> [u8; 65537]
+    ensures { λ r. ⌜ 65537 ≡ length r ⌝ }
+{
+    [0; 65537]
+}
+
+// Prints the listing of a slot.
+pub fn print_listing(fd: i32, s: &[u8]) {
+    let start = start_listing(s);
+    let r = start.reader;
+    let mut stage = start.stage;
+    let mut out = large_buffer();
+    loop {
+        let filled = fill(s, r, stage, &mut out);
+        let n = filled.length;
+        if n == 0 {
+            return;
+        }
+        if !write_all(fd, &out[..n]) {
+            return;
+        }
+        stage = filled.stage;
+    }
+}
+
+// A portion of a listing in a buffer, from `at` to `end`, and the stage after it.
+struct Portion {
+    stage: Stage,
+    at: usize,
+    end: usize,
+}
+
+// The portion, or the next one where nothing is left of it.
+fn more(s: &[u8], r: HpsReader, p: Portion, out: &mut [u8]) -> Portion
+    requires { ⌜ Readable r × ((60 ≤ length (now out)) × Held p (now out)) ⌝ }
+    ensures { λ q. ⌜ MoreIs (now (s .entry)) r p (now (out .entry)) q (now (out .exit)) ⌝ }
+{
+    if p.at < p.end {
+        return p;
+    }
+    let stage = p.stage;
+    let filled = fill(s, r, stage, out);
+    let next = filled.stage;
+    let end = filled.length;
+    Portion {
+        stage: next,
+        at: 0,
+        end,
+    }
+}
+
+// How many bytes, from their start, two slices have in common.
+fn common(x: &[u8], y: &[u8]) -> usize
+    ensures { λ k. ⌜ Common (now (x .entry)) (now (y .entry)) k ⌝ }
+{
+    let mut k: usize = 0;
+    while k < x.len() {
+        if k == y.len() {
+            return k;
+        }
+        if x[k] != y[k] {
+            return k;
+        }
+        k += 1;
+    }
+    k
+}
+
+// The room for a portion: any number from 60, the longest line, would do.
+const PORTION: usize = 4096;
+
+// Whether the listings of two slots are the same from these stages on.
+fn same_lines(a: &[u8], r: HpsReader, here: Stage, b: &[u8], q: HpsReader, there: Stage) -> bool
+    requires { ⌜ Readable r × Readable q ⌝ }
+    ensures { λ yes. ⌜ (yes ≡ true → listingFrom (now (a .entry)) r here ≡ listingFrom (now (b .entry)) q there) ⌝ }
+    ensures { λ yes. ⌜ (yes ≡ false → listingFrom (now (a .entry)) r here ≡ listingFrom (now (b .entry)) q there → ⊥) ⌝ }
+{
+    let mut left = Portion {
+        stage: here,
+        at: 0,
+        end: 0,
+    };
+    let mut right = Portion {
+        stage: there,
+        at: 0,
+        end: 0,
+    };
+    let mut out: [u8; PORTION] = [0; PORTION];
+    let mut other: [u8; PORTION] = [0; PORTION];
+    loop {
+        left = more(a, r, left, &mut out);
+        right = more(b, q, right, &mut other);
+        let i = left.at;
+        let n = left.end;
+        let j = right.at;
+        let m = right.end;
+        if i == n {
+            return j == m;
+        }
+        let k = common(&out[i..n], &other[j..m]);
+        if k == 0 {
+            return false;
+        }
+        left.at = i + k;
+        right.at = j + k;
+    }
+}
+
+// Whether both openings are refused with the same number.
+fn same_stop(here: Stage, there: Stage) -> bool
+    ensures { λ yes. ⌜ (yes ≡ true → (s t : List ℕ) (r q : HpsReader) → listingFrom s r here ≡ listingFrom t q there) ⌝ }
+{
+    let Stage::Stop(number) = here else {
+        return false;
+    };
+    let Stage::Stop(other) = there else {
+        return false;
+    };
+    number == other
+}
+
+// Whether two slots have the same listing.
+pub fn same_listing(a: &[u8], b: &[u8]) -> bool
+    ensures { λ yes. ⌜ (yes ≡ true → listing (now (a .entry)) ≡ listing (now (b .entry))) ⌝ }
+    ensures { λ yes. ⌜ (yes ≡ false → listing (now (a .entry)) ≡ listing (now (b .entry)) → ⊥) ⌝ }
+{
+    let left = start_listing(a);
+    let right = start_listing(b);
+    let here = left.stage;
+    let there = right.stage;
+    if same_stop(here, there) {
+        return true;
+    }
+    let r = left.reader;
+    let q = right.reader;
+    same_lines(a, r, here, b, q, there)
+}

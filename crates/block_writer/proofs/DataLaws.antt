@@ -12,9 +12,9 @@ use Rattle.layout.specs.Sizes.{saturated}
 use Rattle.layout.specs.declared.BlockHeader.{BlockHeader}
 use Rattle.layout.proofs.Lengths.{padded-length, data-length}
 use Rattle.layout.proofs.SizeLaws.{aligned}
-use Rattle.puts.proofs.PutLaws.{put-then}
-use Rattle.written.specs.HeaderPut.{headerPut}
-use Rattle.written.proofs.WrittenLaws.{put-length-32, header-put-is}
+use Rattle.layout.proofs.PutLaws.{put-then}
+use Rattle.layout_put_block.specs.HeaderPut.{headerPut}
+use Rattle.layout_put_block.proofs.WrittenLaws.{put-length-32, header-put-is}
 use Rattle.writer.specs.Loading.{dataIn, secondContext, points, pointsOf, dataSize}
 use Rattle.writer.specs.declared.ChannelBlock.{ChannelBlock}
 use Rattle.writer.specs.declared.Cue.{Cue}

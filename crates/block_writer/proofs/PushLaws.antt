@@ -16,8 +16,8 @@ use Rattle.layout.specs.Sizes.{saturated}
 use Rattle.layout.specs.Puts.{putAt}
 use Rattle.layout.proofs.Cases.{by-cases}
 use Rattle.layout.proofs.SizeLaws.{saturated-fits}
-use Rattle.puts.proofs.PutLaws.{putAt-in}
-use Rattle.written.specs.HeaderPut.{headerPut}
+use Rattle.layout.proofs.PutLaws.{putAt-in}
+use Rattle.layout_put_block.specs.HeaderPut.{headerPut}
 use Rattle.writer.specs.Loading.{Push, pushArgs, dataIn, points, anyLoop, dataSize, sizeWith, blockSize, bytesOf, earlyDue, pushOrder, pushRefusal}
 use Rattle.writer.specs.Push.{countTaken, cuesTaken, loopFrom, loopsHere, nextOffset, advanced}
 use Rattle.writer.specs.WritesAndCuttingRule.{handed}

@@ -1,10 +1,11 @@
 // Push: the block's bytes by its plan, and the record afterwards.
-use block_parts::put_padded;
 use layout::limits::BLOCK_HEADER_SIZE;
+use layout_put_block::put_header;
+use layout_put_block::put_padded;
+use layout_sizes::align;
 use push_advance::advance;
 use push_plan::block_end;
 use push_plan::plan_push;
-use sizes::align;
 use taking::any_loop;
 use taking::put_taken;
 use taking::take;
@@ -13,7 +14,6 @@ use writer::ChannelBlock;
 use writer::HpsWriter;
 use writer::Place;
 use writer::Reply;
-use written::put_header;
 ghost use mathlib.Core.Path.{_≡_};
 ghost use Prim.Native.Nat.{_+_, _≤_};
 ghost use lib.ListN.{length};

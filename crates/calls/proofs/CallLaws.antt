@@ -13,7 +13,7 @@ use types.Run.{OneOf, miss}
 use Rattle.layout.specs.Choice.{pick, _or_}
 use Rattle.layout.specs.Puts.{putAt}
 use Rattle.layout.proofs.Cases.{by-cases}
-use Rattle.puts.proofs.PutLaws.{putAt-in, putAt-length}
+use Rattle.layout.proofs.PutLaws.{putAt-in, putAt-length}
 use Rattle.words.specs.Texts.{uncommented, lineOf}
 use Rattle.words.specs.Data.{dataOf}
 use Rattle.words.proofs.DataLaws.{data-length}

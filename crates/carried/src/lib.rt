@@ -1,9 +1,9 @@
 // What a recorded call must answer, and the server's part after it: the writes that are handed out are carried out, and after each the slot is opened, up to
 // finish's last write with 2 or 3, then as a stream.
 use layout::fields::inside;
-use opening::open;
-use puts::put_bytes;
+use layout_put::put_bytes;
 use reader::answers::OpenReply;
+use reader_open::open;
 use stored::part;
 use writer::Place;
 use writer::Reply;

@@ -7,10 +7,10 @@ use lib.ListN.{length}
 use Rattle.layout.specs.Puts.{putAt}
 use Rattle.layout.specs.Records.{be32}
 use Rattle.layout.proofs.Lengths.{be32-length}
-use Rattle.puts.proofs.PutLaws.{Put, put-then}
+use Rattle.layout.proofs.PutLaws.{Put, put-then}
 use Rattle.kept_reader.specs.KeptReader.{be64, putLong}
 use Rattle.kept_reader.proofs.LongLaws.{be64-length, long-put}
-use Rattle.cue_reader.specs.declared.CueReply.{CueReply}
+use Rattle.reader_cues.specs.declared.CueReply.{CueReply}
 use Rattle.cue_bytes.specs.CueBytes.{cueBytes, putCue, replyNumber, replyPut}
 
 -- ---- A cue

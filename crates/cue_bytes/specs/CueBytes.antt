@@ -3,7 +3,7 @@ use Prim.Native.Nat.{ℕ, _+_}
 use mathlib.Core.List.{List, _++_}
 use Rattle.layout.specs.Puts.{putAt}
 use Rattle.layout.specs.Records.{be32}
-use Rattle.cue_reader.specs.declared.CueReply.{CueReply}
+use Rattle.reader_cues.specs.declared.CueReply.{CueReply}
 use Rattle.kept_reader.specs.KeptReader.{be64, putLong}
 
 -- A cue in 16 bytes: its start, 0 for a point or 1 for the loop, and its name.

@@ -1,8 +1,8 @@
 // What a cue call gave, put into lent bytes.
-use cue_reader::CueReply;
 use kept_reader::END;
 use kept_reader::fields::put_long;
-use puts::put_u32;
+use layout_put::put_u32;
+use reader_cues::CueReply;
 ghost use mathlib.Core.Path.{_≡_};
 ghost use Prim.Native.Nat.{_+_, _<_, _^_};
 ghost use Rattle.cue_bytes.specs.CueBytes.{putCue, replyNumber, replyPut};

@@ -13,7 +13,7 @@ use lib.Dec.{eqb}
 use borrow.Author.Tests.{eqb-true, eqb-false}
 use Rattle.layout.specs.Puts.{putAt}
 use Rattle.layout.proofs.Cases.{by-cases}
-use Rattle.puts.proofs.PutLaws.{putAt-in, putAt-length}
+use Rattle.layout.proofs.PutLaws.{putAt-in, putAt-length}
 use Rattle.writer.specs.WritesAndCuttingRule.{Write, writesIn}
 use Rattle.tearing.specs.Moments.{slotAt}
 use Rattle.tearing.proofs.MomentLaws.{slot-start}

@@ -10,9 +10,9 @@ use layout::limits::ALIGNMENT;
 use layout::limits::BLOCK_HEADER_SIZE;
 use layout::limits::BLOCK_LIMIT;
 use layout::limits::FILE_HEADER_SIZE;
-use sizes::adpcm_bytes;
-use sizes::align;
-use sizes::size_limit;
+use layout_sizes::adpcm_bytes;
+use layout_sizes::align;
+use layout_sizes::size_limit;
 
 const HEADER: u64 = FILE_HEADER_SIZE as u64;
 

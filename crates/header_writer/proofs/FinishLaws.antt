@@ -13,7 +13,7 @@ use Rattle.layout.specs.Puts.{putAt}
 use Rattle.layout.specs.declared.Channel.{Channel}
 use Rattle.layout.proofs.Cases.{by-cases}
 use Rattle.layout.proofs.Lengths.{file-header-length}
-use Rattle.puts.proofs.PutLaws.{Put, put-then, putAt-in}
+use Rattle.layout.proofs.PutLaws.{Put, put-then, putAt-in}
 use Rattle.writer.specs.declared.ChannelBlock.{ChannelBlock}
 use Rattle.writer.specs.declared.HpsWriter.{HpsWriter}
 use Rattle.writer.specs.declared.Reply.the-variants.{Refused, ThreeWrites}

@@ -1,10 +1,10 @@
 // The finish call (document 01, "Loading"): the file header, handed out as three writes.
-use header_bytes::put_file_header;
-use header_records::channels::no_channel;
 use layout::Channel;
 use layout::DspFormat;
 use layout::limits::FILE_HEADER_SIZE;
-use puts::put_bytes;
+use layout::no_channel;
+use layout_put::put_bytes;
+use layout_put_header::put_file_header;
 use writer::Called;
 use writer::ChannelBlock;
 use writer::HpsWriter;

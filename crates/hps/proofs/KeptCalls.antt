@@ -7,11 +7,11 @@ use lib.IntN.{ℤ}
 use borrow.Author.Tests.{ne-eqb}
 use Rattle.reader.specs.OpeningAndReading.{BlockAnswer, blockRead, Remaining, dataRemaining}
 use Rattle.reader.specs.declared.HpsReader.{HpsReader}
-use Rattle.block_reader.specs.BlockAnswers.{blockCall}
-use Rattle.remaining.specs.RemainingAnswers.{remainingReply}
-use Rattle.block_reader.specs.declared.blocks.BlockReply.{BlockReply}
-use Rattle.block_reader.specs.declared.blocks.BlockCall.{BlockCall}
-use Rattle.remaining.specs.declared.RemainingReply.{RemainingReply}
+use Rattle.reader_block.specs.BlockAnswers.{blockCall}
+use Rattle.reader_remaining.specs.RemainingAnswers.{remainingReply}
+use Rattle.reader_block.specs.declared.BlockReply.{BlockReply}
+use Rattle.reader_block.specs.declared.BlockCall.{BlockCall}
+use Rattle.reader_remaining.specs.declared.RemainingReply.{RemainingReply}
 use Rattle.kept_reader.specs.KeptReader.{partIn, readerIn}
 use Rattle.kept_reader.proofs.PartLaws.{block-same, remaining-same, same-count}
 use Rattle.hps.specs.Exported.{onRecord, blockNumber, BlockLent, blockLent, remainingNumber, addressesAfter}

@@ -10,11 +10,11 @@ use borrow.Author.Tests.{lt-ltb, le-ltb, eq-eqb, ne-eqb, eqb-true}
 use Rattle.layout.specs.Puts.{putAt}
 use Rattle.layout.specs.declared.DspFormat.{DspFormat}
 use Rattle.layout.proofs.Cases.{by-cases, apart}
-use Rattle.puts.proofs.PutLaws.{putAt-none}
+use Rattle.layout.proofs.PutLaws.{putAt-none}
 use Rattle.reader.specs.declared.HpsReader.{HpsReader}
 use Rattle.reader.specs.declared.CueIterator.{CueIterator}
 use Rattle.reader.specs.OpeningAndReading.{channelIn}
-use Rattle.cue_reader.specs.CueAnswers.{PartsOf}
+use Rattle.reader_cues.specs.CueAnswers.{PartsOf}
 use Rattle.kept_reader.specs.KeptReader.{readerIn}
 use Rattle.kept_reader.proofs.KeptReads.{part-shape}
 use Rattle.kept_cues.specs.KeptCues.{cursorIn, cursorBytes, putCursor, CuesGiven, cuesFrom, givenOf, CuesLent, cuesOn, numberAfter, cuesNumber, givesCues, cuesLent}

@@ -11,17 +11,14 @@ use Rattle.layout.specs.Puts.{putAt}
 use Rattle.layout.specs.Records.{u16At, u32At, be32}
 use Rattle.layout.proofs.AtLaws.{At, at-left, at-right, at-move}
 use Rattle.layout.proofs.Lengths.{be32-length}
-use Rattle.puts.proofs.PutLaws.{Put, put-then, putAt-in}
+use Rattle.layout.proofs.PutLaws.{Put, put-then, putAt-in}
 use Rattle.reader.specs.declared.HpsReader.{HpsReader}
 use Rattle.reader.specs.declared.CueIterator.{CueIterator}
 use Rattle.reader.specs.CuesReadBack.{cursor, looped, firstCursor}
 use Rattle.kept_reader.specs.KeptReader.{wordAt, longAt, be64, putLong}
 use Rattle.kept_reader.proofs.LongLaws.{be64-length, putLong-length, long-put, word-back, long-back}
 use Rattle.kept_cues.specs.KeptCues.{cursorIn, cursorBytes, CursorFits, putCursor}
-
-both : (a b : Bool) → a && b ≡ a and b
-both true b = refl
-both false b = refl
+use Rattle.layout.proofs.Cases.{both}
 
 pub cursor-read : (r : HpsReader) (bs : List ℕ) {block place base word : ℕ} {first : CueIterator} → first ≡ firstCursor r → block ≡ longAt bs 0 → place ≡ longAt bs 8 → base ≡ longAt bs 16
     → word ≡ wordAt bs 24 → cursor block place base (first .due && eqb word 0) ≡ cursorIn r bs

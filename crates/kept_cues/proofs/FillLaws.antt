@@ -11,7 +11,7 @@ use Rattle.layout.specs.Choice.{_and_}
 use Rattle.layout.specs.Puts.{putAt}
 use Rattle.layout.specs.Records.{cueAt, lengthIn}
 use Rattle.layout.proofs.Cases.{by-cases}
-use Rattle.puts.proofs.PutLaws.{Put, put-then, putAt-none}
+use Rattle.layout.proofs.PutLaws.{Put, put-then, putAt-none}
 use Rattle.layout.specs.declared.DspFormat.{DspFormat}
 use Rattle.reader.specs.declared.LoopStart.{LoopStart}
 use Rattle.reader.specs.declared.HpsReader.{HpsReader}
@@ -19,8 +19,8 @@ use Rattle.reader.specs.declared.CueIterator.{CueIterator}
 use Rattle.reader.specs.OpeningAndReading.{offsetsFrom}
 use Rattle.reader.specs.CuesReadBack.{CueAnswer, loopHere, pointOf, baseAfter, cueFrom, cueStep}
 use Rattle.reader.proofs.HeaderLaws.{header-cases}
-use Rattle.cue_reader.specs.declared.CueCall.{CueCall}
-use Rattle.cue_reader.specs.CueAnswers.{cueReply, cueCall, PartsOf}
+use Rattle.reader_cues.specs.declared.CueCall.{CueCall}
+use Rattle.reader_cues.specs.CueAnswers.{cueReply, cueCall, PartsOf}
 use Rattle.kept_cues.specs.KeptCues.{CuesGiven, noCue, ahead, oneCue, cuesFrom, filledOf, givenOf}
 use Rattle.kept_cues.specs.declared.CuesFilled.{CuesFilled}
 use Rattle.cue_bytes.specs.CueBytes.{cueBytes, replyNumber, replyPut}

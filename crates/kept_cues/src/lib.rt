@@ -1,7 +1,5 @@
 // Cue calls on a kept record, one after the other: the cursor and the cues are in lent bytes.
 use cue_bytes::put_reply;
-use cue_reader::cue_from;
-use cue_starts::first_cursor;
 use kept_reader::END;
 use kept_reader::NO_RECORD;
 use kept_reader::NO_ROOM;
@@ -11,17 +9,19 @@ use kept_reader::fields::word;
 use kept_reader::opened::reader_in;
 use layout::DspFormat;
 use layout::limits::BLOCK_LIMIT;
-use puts::put_u32;
+use layout_put::put_u32;
 use reader::CueIterator;
 use reader::HpsReader;
 use reader::LoopStart;
+use reader_cues::cue_from;
+use reader_cues::first_cursor;
 ghost use mathlib.Core.Path.{_≡_};
 ghost use Prim.Native.Nat.{_+_, _/_, _<_, _≤_};
 ghost use lib.ListN.{length};
 ghost use Rattle.layout.specs.Puts.{putAt};
 ghost use Rattle.reader.specs.declared.HpsReader.{HpsReader};
 ghost use Rattle.reader.specs.CuesReadBack.{cursor};
-ghost use Rattle.cue_reader.specs.CueAnswers.{PartsOf};
+ghost use Rattle.reader_cues.specs.CueAnswers.{PartsOf};
 ghost use Rattle.kept_cues.specs.KeptCues.{cursorIn, CursorBack, putCursor, filledOf, cuesFrom, givenOf, CuesLent, numberAfter, cuesNumber, givesCues, cuesLent};
 
 const CURSOR_SIZE: usize = 32;

@@ -18,7 +18,7 @@ use Rattle.layout.specs.Records.{be16, be32, beZ16, contextBytes}
 use Rattle.layout.proofs.Cases.{by-cases}
 use Rattle.layout.proofs.Lengths.{be16-length, be32-length, beZ16-length, coefficients-length}
 use Rattle.layout.proofs.AtLaws.{At, at-left, at-right, at-move, at-same, at-inside, joined, Pieces, pieces, u16-back, i16-back}
-use Rattle.puts.proofs.PutLaws.{putAt-length}
+use Rattle.layout.proofs.PutLaws.{putAt-length}
 use Rattle.writer.specs.Typed.{TypedBlock}
 use Rattle.writer.specs.Loading.{noBlock, beginRefusal, finishRefusal}
 use Rattle.writer.specs.Calls.{emptyOf, beginOf, afterFinish, finishOf, Good}
@@ -44,6 +44,7 @@ use Rattle.kept_record.specs.KeptRecord.{sideBytes, recordBytes}
 use Rattle.kept_record.proofs.RecordLaws.{side-length}
 use Rattle.kept_loading.proofs.AfterLaws.{holds, good-sensible}
 use Rattle.layout.specs.Refusals.{slotLimit}
+use Rattle.layout.proofs.ReadBack.{zeros-fit}
 
 -- ---- Numbers
 
@@ -260,10 +261,6 @@ module _ (k : List ℕ) (room : loaderSize ≤ length k) (s : Fields) (t : List 
       (same-after k 0 bs (omega arith) cuesAt loaderSize (omega arith) .byte)
 
 -- the record of an accepted begin
-zeros-fit : (n : ℕ) → All (SFits w16) (replicate n (pos 0))
-zeros-fit zero = All.none
-zeros-fit (suc n) = All.more {x = pos 0} (record { sfits = omega arith }) (zeros-fit n)
-
 none-fits : SideFits noBlock
 none-fits =
     record {

@@ -11,7 +11,7 @@ use Rattle.layout.specs.Lists.{concat}
 use Rattle.layout.specs.Puts.{putAt}
 use Rattle.layout.specs.Records.{be32, fileHeaderSize}
 use Rattle.layout.proofs.Lengths.{be32-length}
-use Rattle.puts.proofs.PutLaws.{Put, put-then, putAt-none, putAt-length}
+use Rattle.layout.proofs.PutLaws.{Put, put-then, putAt-none, putAt-length}
 use Rattle.reader.specs.declared.LoopStart.{LoopStart}
 use Rattle.kept_reader.proofs.ReadBackLaws.{offsets-length, file-length}
 use Rattle.kept_reader.specs.KeptReader.{loopNumber, fileKept, offsetsKept, openedParts, openedSize, offsetsAt}

@@ -6,9 +6,9 @@ use kept_reader::opened::OFFSETS_AT;
 use kept_reader::opened::OFFSETS_SIZE;
 use layout::limits::CHANNEL_SIZE;
 use layout::limits::FILE_HEADER_SIZE;
-use puts::put_bytes;
-use puts::put_u32;
-use puts::put_zeros;
+use layout_put::put_bytes;
+use layout_put::put_fill;
+use layout_put::put_u32;
 use reader::LoopStart;
 ghost use mathlib.Core.Path.{_≡_};
 ghost use Prim.Native.Nat.{_≤_};
@@ -52,7 +52,7 @@ fn put_file(kept: &mut [u8], s: &[u8], count: usize)
         return;
     }
     put_bytes(kept, 0, &s[..SECOND_AT]);
-    put_zeros(kept, SECOND_AT, CHANNEL_SIZE);
+    put_fill(kept, SECOND_AT, CHANNEL_SIZE, 0);
 }
 
 // The record of a slot that was opened, by its parts: the offsets are lent, so that none is copied on the way.
@@ -71,5 +71,5 @@ pub fn put_opened(
     put_u32(kept, BLOCKS_AT, (blocks % 4294967296) as u32);
     put_u32(kept, LOOP_AT, loop_number(start));
     put_offsets(kept, offsets, blocks);
-    put_zeros(kept, OFFSETS_AT + 4 * blocks, OFFSETS_SIZE - 4 * blocks);
+    put_fill(kept, OFFSETS_AT + 4 * blocks, OFFSETS_SIZE - 4 * blocks, 0);
 }

@@ -17,7 +17,7 @@ use Rattle.layout.specs.Choice.{_and_}
 use Rattle.layout.specs.Lists.{All}
 use Rattle.layout.specs.Puts.{putAt}
 use Rattle.layout.proofs.Cases.{by-cases}
-use Rattle.puts.proofs.PutLaws.{putAt-length}
+use Rattle.layout.proofs.PutLaws.{putAt-length}
 use Rattle.writer.specs.Loading.{pushRefusal, pushArgs}
 use Rattle.writer.specs.Push.{advanced}
 use Rattle.writer.specs.Calls.{standingIn, takenOf, pushOf, Good}

@@ -9,7 +9,7 @@ use Rattle.layout.specs.Lists.{concat}
 use Rattle.layout.specs.Puts.{putAt}
 use Rattle.layout.specs.Records.{be32}
 use Rattle.layout.proofs.Lengths.{be32-length}
-use Rattle.puts.proofs.PutLaws.{Put, put-then, putAt-length}
+use Rattle.layout.proofs.PutLaws.{Put, put-then, putAt-length}
 use Rattle.writer.specs.declared.Looping.{Looping}
 use Rattle.writer.specs.declared.LoopAt.{LoopAt}
 use Rattle.kept_sides.specs.declared.Fields.{Fields}

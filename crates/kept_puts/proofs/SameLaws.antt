@@ -7,7 +7,7 @@ use lib.ListN.{length, getD, take, drop, length-append, List·getD-append}
 use lib.Seq.{length-take-le, getD-take, getD-drop, getD-append-add}
 use Rattle.layout.specs.Lists.{put}
 use Rattle.layout.specs.Puts.{putAt}
-use Rattle.puts.proofs.PutLaws.{putAt-in, putAt-length}
+use Rattle.layout.proofs.PutLaws.{putAt-in, putAt-length}
 use Rattle.kept_reader.specs.KeptReader.{wordAt, longAt}
 use Rattle.kept_sides.specs.KeptSides.{sideIn}
 use Rattle.kept_sides.proofs.SameLaws as sides

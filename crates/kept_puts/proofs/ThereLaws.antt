@@ -7,7 +7,7 @@ use lib.ListN.{length, take, drop}
 use lib.Seq.{length-take-le}
 use Rattle.layout.specs.Puts.{putAt}
 use Rattle.layout.proofs.AtLaws.{At}
-use Rattle.puts.proofs.PutLaws.{putAt-in}
+use Rattle.layout.proofs.PutLaws.{putAt-in}
 
 -- bytes that fit, where they were put
 pub put-there : (l : List ℕ) (at : ℕ) (bs : List ℕ) → at + length bs ≤ length l → At (putAt l at bs) at bs

@@ -14,7 +14,7 @@ use kept_sides::places::NEXT_AT;
 use kept_sides::places::OFFSET_AT;
 use kept_sides::places::SLOT_AT;
 use kept_sides::places::SUM_AT;
-use puts::put_u32;
+use layout_put::put_u32;
 use writer::LoopAt;
 use writer::Looping;
 ghost use mathlib.Core.Path.{_≡_};

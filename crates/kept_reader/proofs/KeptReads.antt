@@ -23,6 +23,7 @@ use Rattle.reader.specs.declared.HpsReader.{HpsReader}
 use Rattle.reader.specs.declared.LoopStart.{LoopStart}
 use Rattle.kept_reader.specs.KeptReader.{wordAt, loopNumber, loopOf, lesser, offsetsIn, partIn, openedSize, offsetsAt}
 use Rattle.layout.specs.Refusals.{blockLimit}
+use Rattle.layout.proofs.ListLaws.{zeros-at}
 
 -- ---- Words
 
@@ -78,11 +79,6 @@ pub record OffsetsRead (kept : List ℕ) (from to : ℕ) (os : List ℕ) (i : �
   pub low : from ≤ i
   pub high : (i ≡ from) ⊎ (i ≤ to)
   pub each : (k : ℕ) → k < blockLimit → getD os k 0 ≡ pick (leb from k and ltb k i) (u32At kept (offsetsAt + 4 * k)) 0
-
-zeros-at : (n k : ℕ) → _≡_ {A = ℕ} (getD (replicate n 0) k 0) 0
-zeros-at zero k = refl
-zeros-at (suc n) zero = refl
-zeros-at (suc n) (suc k) = zeros-at n k
 
 module _ {kept : List ℕ} {from to : ℕ} where
   pub offsets-unread : OffsetsRead kept from to (replicate blockLimit 0) from

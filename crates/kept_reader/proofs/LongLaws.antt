@@ -8,7 +8,7 @@ use Rattle.layout.specs.Puts.{putAt}
 use Rattle.layout.specs.Records.{be32}
 use Rattle.layout.proofs.AtLaws.{At, at-left, at-right, at-move, at-inside, u32-back}
 use Rattle.layout.proofs.Lengths.{be32-length}
-use Rattle.puts.proofs.PutLaws.{Put, put-then, putAt-length}
+use Rattle.layout.proofs.PutLaws.{Put, put-then, putAt-length}
 use Rattle.kept_reader.specs.KeptReader.{wordAt, longAt, be64, putLong}
 use Rattle.kept_reader.proofs.KeptReads.{word-in}
 

@@ -23,7 +23,7 @@ use Rattle.layout.proofs.Lengths.{be32-length}
 use Rattle.layout.proofs.FieldLaws.{field-inside, field-past, field-value}
 use Rattle.layout.proofs.AtLaws.{At, at-left, at-right, at-move, at-same, at-byte, u32-back}
 use Rattle.layout.proofs.ReadBack.{channel-back, none-fits}
-use Rattle.puts.proofs.PutLaws.{putAt-in, putAt-length}
+use Rattle.layout.proofs.PutLaws.{putAt-in, putAt-length}
 use Rattle.reader.specs.OpeningAndReading.{Walked, firstAt, walkFrom, Opened, made, opening, Readable}
 use Rattle.reader.specs.ReaderAnswers.{openCall}
 use Rattle.reader.specs.declared.HpsReader.{HpsReader}
@@ -33,6 +33,7 @@ use Rattle.reader.proofs.OpenedLaws.{Parts, opened-parts, one-or-two, not-walke
 use Rattle.kept_reader.specs.KeptReader.{wordAt, loopNumber, loopOf, fileKept, offsetsKept, openedParts, openedBytes, offsetsIn, readerIn, ReadBack, openedSize, offsetsAt}
 use Rattle.kept_reader.proofs.KeptReads.{word-in, first-offset, offsets-long, second-lesser, part-made}
 use Rattle.layout.specs.Refusals.{blockLimit}
+use Rattle.layout.proofs.ListLaws.{zeros-at}
 
 -- ---- Lengths
 
@@ -148,11 +149,6 @@ offset-back {k} off (o ∷ os) (All.more g f) a zero h = let e : off + 4 * zero 
 offset-back {k} off (o ∷ os) (All.more g f) a (suc j) h =
     let e : off + 4 * suc j ≡ off + 4 + 4 * j = omega arith in
     rw e (offset-back (off + 4) os f (at-move (off + 4) (ap (λ (m : ℕ). off + m) (be32-length o)) (at-right (be32 o) (concat be32 os) a)) j (le-of-suc-le-suc h))
-
-zeros-at : (n j : ℕ) → _≡_ {A = ℕ} (getD (replicate n 0) j 0) 0
-zeros-at zero j = refl
-zeros-at (suc n) zero = refl
-zeros-at (suc n) (suc j) = zeros-at n j
 
 zeros-after : (os : List ℕ) (n j : ℕ) → length os ≤ j → _≡_ {A = ℕ} (getD (os ++ replicate n 0) j 0) 0
 zeros-after os n j h =

@@ -1,7 +1,7 @@
 // Numbers in a lent record, big-endian as in the file. A number that is not wholly there reads as 0.
 use layout::fields::U32Read;
 use layout::fields::read_u32;
-use puts::put_u32;
+use layout_put::put_u32;
 ghost use mathlib.Core.Path.{_≡_};
 ghost use Prim.Native.Nat.{_+_, _<_, _^_};
 ghost use Rattle.kept_reader.specs.KeptReader.{wordAt, longAt, putLong};

@@ -8,7 +8,7 @@ use Rattle.layout.specs.Lists.{concat}
 use Rattle.layout.specs.Puts.{putAt}
 use Rattle.layout.specs.Records.{be16, be32, beZ16, contextBytes}
 use Rattle.layout.proofs.Lengths.{be16-length, be32-length, context-length, coefficients-length}
-use Rattle.puts.proofs.PutLaws.{Put, put-then}
+use Rattle.layout.proofs.PutLaws.{Put, put-then}
 use Rattle.writer.specs.declared.ChannelBlock.{ChannelBlock}
 use Rattle.kept_sides.specs.declared.Fields.{Fields}
 use Rattle.kept_puts.specs.KeptNumbers.{numberBytes}

@@ -1,12 +1,12 @@
 // The writer's record put into lent bytes after a push: numbers and sides.
-use header_bytes::put_coefficients;
 use kept_puts::put_numbers;
 use kept_sides::Fields;
 use kept_sides::places::LEFT_AT;
 use kept_sides::places::RIGHT_AT;
-use puts::put_context;
-use puts::put_u16;
-use puts::put_u32;
+use layout_put::put_context;
+use layout_put::put_u16;
+use layout_put::put_u32;
+use layout_put_header::put_coefficients;
 use writer::ChannelBlock;
 ghost use mathlib.Core.Path.{_≡_};
 ghost use mathlib.Core.List.{_++_};

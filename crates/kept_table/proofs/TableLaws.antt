@@ -11,7 +11,7 @@ use Rattle.layout.specs.Puts.{putAt}
 use Rattle.layout.specs.Records.{be32}
 use Rattle.layout.proofs.Lengths.{be32-length}
 use Rattle.layout.proofs.AtLaws.{At, at-left, at-right, at-move}
-use Rattle.puts.proofs.PutLaws.{putAt-length, putAt-none, Put, put-then}
+use Rattle.layout.proofs.PutLaws.{putAt-length, putAt-none, Put, put-then}
 use Rattle.writer.specs.Loading.{rank, rangeLength}
 use Rattle.writer.specs.Calls.{noCue}
 use Rattle.writer.specs.declared.Cue.{Cue}

@@ -4,7 +4,7 @@ use kept_sides::places::COUNT_AT;
 use kept_sides::places::CUE_SIZE;
 use kept_sides::places::CUES_AT;
 use layout::limits::CUE_LIMIT;
-use puts::put_u32;
+use layout_put::put_u32;
 use writer::Cue;
 use writer::CueKind;
 ghost use mathlib.Core.Path.{_≡_};

@@ -12,7 +12,7 @@ use Rattle.layout.specs.Choice.{pick}
 use Rattle.layout.specs.Lists.{put}
 use Rattle.layout.specs.Puts.{putAt}
 use Rattle.layout.proofs.Cases.{by-cases}
-use Rattle.puts.proofs.PutLaws.{put-length, put-none, putAt-in, putAt-byte}
+use Rattle.layout.proofs.PutLaws.{put-length, put-none, putAt-in, putAt-byte}
 use Rattle.key_lines.specs.Lines.{column}
 
 pub column-length : (w n : ℕ) → length (column w n) ≡ w

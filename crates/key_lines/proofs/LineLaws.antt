@@ -10,7 +10,7 @@ use lib.Dec.{leb}
 use borrow.Author.Tests.{le-leb, lt-leb, leb-true}
 use Rattle.layout.specs.Puts.{putAt}
 use Rattle.layout.proofs.Cases.{by-cases}
-use Rattle.puts.proofs.PutLaws.{put-then, putAt-in, putAt-length, putAt-none, kept}
+use Rattle.layout.proofs.PutLaws.{put-then, putAt-in, putAt-length, putAt-none, kept}
 use Rattle.key_lines.specs.declared.Column.{Column}
 use Rattle.key_lines.specs.Lines.{columnBytes, columnsBytes, line, FieldPut, LinePut}
 

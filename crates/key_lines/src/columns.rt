@@ -1,23 +1,12 @@
 // A line's columns, put into a lent buffer: right-justified decimals, or `-`.
 use crate::Column;
 use layout::fields::inside;
-use puts::put_bytes;
+use layout_put::put_bytes;
+use layout_put::put_fill;
 ghost use mathlib.Core.Path.{_≡_};
 ghost use lib.ListN.{replicate};
 ghost use Rattle.layout.specs.Puts.{putAt};
 ghost use Rattle.key_lines.specs.Lines.{column, FieldPut};
-
-fn put_blanks(out: &mut [u8], at: usize, n: usize)
-    ensures { λ _. ⌜ now (out .exit) ≡ putAt (now (out .entry)) at (replicate n 32) ⌝ }
-{
-    if inside(out.len(), at, n) {
-        let mut j: usize = 0;
-        while j < n {
-            out[at + j] = 32;
-            j += 1;
-        }
-    }
-}
 
 fn digit(n: u64) -> u8
     ensures { λ r. ⌜ r ≡ 48 + n % 10 ⌝ }
@@ -38,7 +27,7 @@ fn put_column(out: &mut [u8], at: usize, width: usize, n: u64)
             k -= 1;
             out[at + k] = digit(left);
             if left < 10 {
-                put_blanks(out, at, k);
+                put_fill(out, at, k, 32);
                 return;
             }
             left = left / 10;

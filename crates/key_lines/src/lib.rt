@@ -3,9 +3,9 @@
 use crate::line::put_line;
 use layout::BlockHeader;
 use layout::DspFormat;
+use layout_sizes::num_samples;
 use reader::HpsReader;
 use reader::LoopStart;
-use sizes::num_samples;
 ghost use mathlib.Core.Path.{_≡_};
 ghost use Rattle.layout.specs.Records.{lengthIn};
 ghost use Rattle.key_lines.specs.Lines.{stopLine, headLine, loopColumn, blockLine, loopLine, cueLine, LinePut};

@@ -2,8 +2,8 @@
 use crate::Column;
 use crate::columns::put_field;
 use layout::fields::inside;
-use puts::put_bytes;
-use puts::put_u8;
+use layout_put::put_bytes;
+use layout_put::put_u8;
 ghost use Rattle.key_lines.specs.Lines.{line, LinePut};
 
 // The longest line: the word, five cue starts, the newline.

@@ -10,13 +10,13 @@ use Rattle.layout.proofs.Cases.{by-cases}
 use borrow.Author.Tests.{lt-leb, le-leb, leb-true, leb-false, eq-eqb, ne-eqb}
 use lib.Seq.{length-take-le}
 use Rattle.layout.specs.Puts.{putAt}
-use Rattle.puts.proofs.PutLaws.{putAt-none, putAt-out, putAt-next, putAt-length}
+use Rattle.layout.proofs.PutLaws.{putAt-none, putAt-out, putAt-next, putAt-length}
 use Rattle.reader.specs.CuesReadBack.{CueAnswer, cueStep}
 use Rattle.reader.specs.declared.HpsReader.{HpsReader}
 use Rattle.reader.specs.declared.CueIterator.{CueIterator}
-use Rattle.cue_reader.specs.CueAnswers.{cueReply, cueCall}
-use Rattle.cue_reader.specs.declared.CueReply.{CueReply}
-use Rattle.cue_reader.specs.declared.CueCall.{CueCall}
+use Rattle.reader_cues.specs.CueAnswers.{cueReply, cueCall}
+use Rattle.reader_cues.specs.declared.CueReply.{CueReply}
+use Rattle.reader_cues.specs.declared.CueCall.{CueCall}
 use Rattle.key_listing.specs.declared.Stage.{Stage}
 use Rattle.key_listing.specs.declared.listing.Line.{Line}
 use Rattle.key_lines.specs.Lines.{loopLine, cueLine, LinePut}

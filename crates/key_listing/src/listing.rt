@@ -1,17 +1,17 @@
 // The listing, line by line, and as much of it as a lent buffer holds.
 use crate::Stage;
-use cue_reader::CueReply;
-use cue_reader::next_cue;
-use cue_starts::first_cursor;
 use key_lines::put_block;
 use key_lines::put_cue;
 use key_lines::put_head;
 use key_lines::put_loop;
 use key_lines::put_stop;
 use layout::answers::HeaderRead;
+use layout_read::block::read_header;
 use reader::CueIterator;
 use reader::HpsReader;
-use records::block::read_header;
+use reader_cues::CueReply;
+use reader_cues::first_cursor;
+use reader_cues::next_cue;
 ghost use mathlib.Core.Path.{_≡_};
 ghost use Prim.Native.Nat.{_<_};
 ghost use Rattle.reader.specs.OpeningAndReading.{Readable};

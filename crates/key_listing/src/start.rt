@@ -1,9 +1,9 @@
 // The listing of a slot from its start.
 use crate::Stage;
 use layout::limits::KEY_LIMIT;
-use opening::open;
 use reader::HpsReader;
 use reader::answers::OpenReply;
+use reader_open::open;
 ghost use mathlib.Core.Path.{_≡_};
 ghost use Rattle.reader.specs.OpeningAndReading.{Readable};
 ghost use Rattle.key_listing.specs.MarkingKey.{listingLines, linesFrom};

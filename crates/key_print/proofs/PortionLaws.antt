@@ -9,7 +9,7 @@ use lib.Seq.{length-take-le, take-at, take-add, take-take, take-suc, drop-drop}
 use lib.Dec.{eqb}
 use borrow.Author.Tests.{eqb-true, eqb-false}
 use Rattle.layout.proofs.Cases.{by-cases}
-use Rattle.puts.proofs.PutLaws.{putAt-in, putAt-length}
+use Rattle.layout.proofs.PutLaws.{putAt-in, putAt-length}
 use Rattle.reader.specs.declared.HpsReader.{HpsReader}
 use Rattle.key_listing.specs.MarkingKey.{linesFrom, listingFrom}
 use Rattle.key_listing.specs.Filling.{FilledIs, linesFitting}

@@ -1,5 +1,5 @@
 -- Reads and the enums that answer them: what a value or a refusal says of the slot, and which answer a read comes to.
-use Prim.Native.Nat.{ℕ, _+_, _-_, _≤_, _<_}
+use Prim.Native.Nat.{ℕ, _-_, _≤_, _<_}
 use mathlib.Core.Path.{_≡_, refl, sym, ap, _∙_}
 use mathlib.Core.Bool.{Bool, true, false}
 use mathlib.Core.List.{List}
@@ -7,7 +7,6 @@ use native.Mathlib.Omega.{arith}
 use lib.ListN.{length}
 use lib.Dec.{leb}
 use borrow.Author.Tests.{leb-true, leb-false, le-leb, lt-leb}
-use Rattle.layout.specs.Choice.{pick}
 use Rattle.layout.specs.Records.{Read, field, on}
 use Rattle.layout.specs.Answers.{refusalOf, u8Says, u16Says, u32Says, i16Says, i32Says, contextSays, headerSays, cueSays, formatSays, answerSays}
 use Rattle.layout.specs.declared.fields.U8Read.{U8Read}

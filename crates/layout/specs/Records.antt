@@ -104,7 +104,17 @@ channelBytes c =
 -- The same, read, with its format.
 unfoldable pub channelAt : List ℕ → ℕ → DspFormat → Channel
 channelAt s at f =
-    record { looping = not (eqb (u16At s at) 0); format = f; «loop_address» = u32At s (at + 4); «end_address» = u32At s (at + 8); «current_address» = u32At s (at + 12); coefficients = i16s s (at + 16) 16; gain = u16At s (at + 48); context = contextAt s (at + 50) }
+    record {
+      looping = not (eqb (u16At s at) 0);
+      format = f;
+      «loop_address» = u32At s (at + 4);
+      «end_address» = u32At s (at + 8);
+      «current_address» = u32At s
+          (at + 12);
+      coefficients = i16s s (at + 16) 16;
+      gain = u16At s (at + 48);
+      context = contextAt s (at + 50);
+    }
 
 -- "a bad value when its field is read": looping and format, then the fields after them, of which none has a bad value
 unfoldable pub readChannel : List ℕ → ℕ → Read Channel

@@ -11,7 +11,7 @@ use lib.Dec.{leb}
 use Rattle.layout.specs.Lists.{sum, put}
 use Rattle.layout.specs.Puts.{putAt}
 use Rattle.layout.proofs.FieldLaws.{failed}
-use Rattle.puts.proofs.PutLaws.{putAt-in, putAt-length, putAt-none, putAt-next}
+use Rattle.layout.proofs.PutLaws.{putAt-in, putAt-length, putAt-none, putAt-next}
 use Rattle.writer.specs.WritesAndCuttingRule.{Write, write, handed, writesIn, mostWrites}
 use Rattle.writer.specs.declared.Place.{Place}
 use Rattle.noted.specs.Noted.{noPlace, noneNoted, notedIn, sizes, Listed, Room, Notes}

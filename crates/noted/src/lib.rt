@@ -1,6 +1,6 @@
 // Writes noted for later: their places, and their bytes one after the other.
 use layout::fields::inside;
-use puts::put_bytes;
+use layout_put::put_bytes;
 use writer::MOST_WRITES;
 use writer::Place;
 use writer::Reply;

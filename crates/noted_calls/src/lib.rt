@@ -1,11 +1,11 @@
 // Loading calls whose writes are noted: each gets a lent buffer of zeros of its own.
 use block_writer::push::push;
 use header_writer::finish::finish;
+use layout::least;
 use layout::limits::KEY_LIMIT;
 use noted::Noted;
 use noted::none;
 use noted::note;
-use tearing::least;
 use writer::ChannelBlock;
 use writer::HpsWriter;
 use writer::Looping;

@@ -1,7 +1,7 @@
 // Push's refusals by the record, the rates and the lengths, in groups: each gives its first number due, 0 where none is.
 use layout::limits::BLOCK_LIMIT;
-use sizes::adpcm_bytes;
-use sizes::size_limit;
+use layout_sizes::adpcm_bytes;
+use layout_sizes::size_limit;
 ghost use mathlib.Core.Path.{_≡_};
 ghost use Rattle.layout.specs.Refusals.{firstDue};
 ghost use Rattle.writer.specs.Loading.{differ, changed, stateDue, rateDue, lengthDue};

@@ -1,12 +1,11 @@
 -- A block header that was read, or is not in the slot.
-use Prim.Native.Nat.{ℕ, _+_, _*_, _≤_}
+use Prim.Native.Nat.{ℕ, _+_, _≤_}
 use mathlib.Core.Path.{_≡_, ap}
 use mathlib.Core.List.{List}
-use native.Mathlib.Omega.{arith}
 use lib.ListN.{length, getD}
 use lib.Dec.{leb}
 use borrow.Author.Tests.{leb-true, leb-false}
-use Rattle.layout.specs.Records.{P, Read, headerAt, readHeader, dataAfter}
+use Rattle.layout.specs.Records.{Read, headerAt, readHeader, dataAfter}
 use Rattle.layout.specs.Answers.{refusalOf, headerSays}
 use Rattle.layout.specs.declared.BlockHeader.{BlockHeader}
 use Rattle.layout.specs.declared.answers.HeaderRead.{HeaderRead}
@@ -28,10 +27,6 @@ module _ (s : List ℕ) (o : ℕ) {q : HeaderRead} (e : headerSays q ≡ readHea
 pub header-is : (s : List ℕ) (o : ℕ) {h : BlockHeader} → readHeader s o ≡ Read.value h → h ≡ headerAt s o
 unfolding readHeader
 header-is s o {h} e = field-value s (o + dataAfter (getD s (o + 28) 0)) (headerAt s o) h e .is
-
-pub P-above : (n : ℕ) → n ≤ P n
-unfolding P
-P-above n = omega arith
 
 -- it lies in the slot with its filled cues
 pub header-inside : (s : List ℕ) (o : ℕ) {h : BlockHeader} → readHeader s o ≡ Read.value h → o + dataAfter (h .cues) ≤ length s

@@ -1,6 +1,6 @@
 -- An opening taken apart, and what holds of every record that it gives.
 use Prim.Native.Nat.{ℕ, zero, suc, _+_, _≤_}
-use mathlib.Core.Path.{_≡_, refl, sym, ap, _∙_}
+use mathlib.Core.Path.{_≡_, refl}
 use mathlib.Core.Bool.{Bool, true, false}
 use mathlib.Core.List.{List, [], _∷_, _++_}
 use mathlib.Core.Logic.{_⊎_, inl, inr, ⊎-elim}
@@ -122,7 +122,8 @@ opened-readable : (s : List ℕ) (r : HpsReader) → opening s ≡ Opened.opened
 unfolding made
 opened-readable s r e =
     let p = opened-parts s r e in
-    rw (← (p .is)) (record { channels = ⊎-elim (λ h. omega arith) (λ h. omega arith) (one-or-two (p .count) (p .right-count)); blocks = walk-few blockLimit s [] fileHeaderSize (p .offsets) (p .start) (p .walk) })
+    rw (← (p .is))
+    (record { channels = ⊎-elim (λ h. omega arith) (λ h. omega arith) (one-or-two (p .count) (p .right-count)); blocks = walk-few blockLimit s [] fileHeaderSize (p .offsets) (p .start) (p .walk) })
 
 readable-of : (o : Opened) → ((r : HpsReader) → o ≡ Opened.opened r → Readable r) → Readable (openCall o .reader)
 readable-of (Opened.refused n) f = record { channels = omega arith; blocks = omega arith }

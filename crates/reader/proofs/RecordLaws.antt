@@ -1,5 +1,5 @@
 -- The opening record: what its type gives, two channels and 512 offsets, and its offsets one by one.
-use Prim.Native.Nat.{ℕ, zero, suc, _+_, _≤_, _<_}
+use Prim.Native.Nat.{ℕ, zero, suc, _+_, _≤_, _<_, min}
 use mathlib.Core.Path.{_≡_, refl, sym, ap, _∙_}
 use mathlib.Core.List.{List, [], _∷_}
 use native.Mathlib.Omega.{arith}
@@ -25,13 +25,22 @@ shaped r vs is = record {
 }
 
 -- the offsets of the blocks from i on: none past the last, else that of block i first
-pub offsets-none : (r : HpsReader) (i : ℕ) → r .blocks ≤ i → offsetsFrom r i ≡ []
-offsets-none r i h = drop-of-length-le (take (r .blocks) (r .offsets)) {i = i} (simp length-take (omega arith))
+module _ (r : HpsReader) (i : ℕ) where
+  pub offsets-past : min (r .blocks) (length (r .offsets)) ≤ i → offsetsFrom r i ≡ []
+  offsets-past h = drop-of-length-le (take (r .blocks) (r .offsets)) {i = i} (simp length-take (omega arith))
 
-pub offsets-more : (r : HpsReader) (i : ℕ) → Shaped r → Readable r → i < r .blocks → offsetsFrom r i ≡ offsetIn r i ∷ offsetsFrom r (i + 1)
-offsets-more r i shape ok h =
-    let l : i < length (take (r .blocks) (r .offsets)) = simp length-take (omega (arith, shape .offsets, ok .blocks)) in
-    rw (add-one i) (drop-cons (take (r .blocks) (r .offsets)) i 0 l ∙ ap (λ (o : ℕ). o ∷ drop (suc i) (take (r .blocks) (r .offsets))) (getD-take (r .blocks) (r .offsets) i 0 h))
+  pub offsets-next : i < min (r .blocks) (length (r .offsets)) → offsetsFrom r i ≡ offsetIn r i ∷ offsetsFrom r (i + 1)
+  offsets-next h =
+      let l : i < length (take (r .blocks) (r .offsets)) = simp length-take (omega arith) in
+      let b : i < r .blocks = omega arith in
+      rw (add-one i) (drop-cons (take (r .blocks) (r .offsets)) i 0 l ∙ ap (λ (o : ℕ). o ∷ drop (suc i) (take (r .blocks) (r .offsets))) (getD-take (r .blocks) (r .offsets) i 0 b))
+
+  -- of a record that can be read it is its number of blocks that counts
+  pub offsets-none : r .blocks ≤ i → offsetsFrom r i ≡ []
+  offsets-none h = offsets-past (omega arith)
+
+  pub offsets-more : Shaped r → Readable r → i < r .blocks → offsetsFrom r i ≡ offsetIn r i ∷ offsetsFrom r (i + 1)
+  offsets-more shape ok h = offsets-next (omega (arith, shape .offsets, ok .blocks))
 
 -- an element, whatever stands beyond the list's end
 pub element : {A : Type 0} (l : List A) (i : ℕ) (d d′ : A) → i < length l → getD l i d ≡ getD l i d′

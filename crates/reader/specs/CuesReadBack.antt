@@ -1,5 +1,5 @@
 -- Cues read back (document 01): the cue call and its cursor.
-use Prim.Native.Nat.{ℕ, _+_, _*_, _%_, _^_}
+use Prim.Native.Nat.{ℕ, zero, suc, _+_, _*_, _%_, _^_}
 use mathlib.Core.Bool.{Bool, true, false}
 use mathlib.Core.List.{List, [], _∷_}
 use lib.Dec.{ltb, eqb}
@@ -69,3 +69,8 @@ cueFrom s r c (o ∷ os) i j b d =
 -- "A cue call steps as `CueIterator::next` does, from a cursor"
 unfoldable pub cueStep : List ℕ → HpsReader → CueIterator → CueStep
 cueStep s r c = cueFrom s r c (offsetsFrom r (c .block)) (c .block) (c .place) (c .base) (c .due)
+
+-- The n-th cue call from a cursor, counted from 0.
+unfoldable pub nthCue : List ℕ → HpsReader → CueIterator → (n : ℕ) → CueAnswer
+nthCue s r c zero = cueStep s r c .answer
+nthCue s r c (suc n) = nthCue s r (cueStep s r c .after) n

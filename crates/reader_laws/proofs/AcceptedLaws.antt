@@ -1,37 +1,29 @@
 -- What holds of the record of every accepted opening.
-use Prim.Native.Nat.{ℕ, zero, suc, _+_, _-_, _≤_, _<_}
-use mathlib.Core.Path.{_≡_, refl, sym, ap, _∙_}
-use mathlib.Core.Bool.{Bool, true, false, not}
-use mathlib.Core.List.{List, [], _∷_, _++_}
-use mathlib.Core.Logic.{_⊎_, inl, inr, ⊎-elim}
+use Prim.Native.Nat.{ℕ, _+_, _-_, _≤_, _<_}
+use mathlib.Core.Path.{_≡_, sym, ap, _∙_}
+use mathlib.Core.Bool.{Bool, true, false}
+use mathlib.Core.List.{List, []}
 use native.Mathlib.Omega.{arith}
-use lib.ListN.{length, take, drop, getD, replicate, List·getD-append}
+use lib.ListN.{length, drop, getD, replicate, List·getD-append}
 use lib.Seq.{take-append-seam}
-use lib.Dec.{ltb, eqb}
-use borrow.Author.Tests.{eqb-true, not-false}
 use Rattle.layout.specs.Choice.{pick, _or_}
-use Rattle.layout.specs.Lists.{All, none, more, same}
-use Rattle.layout.specs.Records.{Read, on, field, u32At, readChannel, magic, firstBlockOffset}
-use Rattle.layout.specs.Refusals.{wrongCount, slotLimit, blockLimit}
+use Rattle.layout.specs.Lists.{none}
+use Rattle.layout.specs.Records.{firstBlockOffset}
+use Rattle.layout.specs.Refusals.{wrongCount, blockLimit}
 use Rattle.layout.specs.declared.Channel.{Channel}
-use Rattle.layout.proofs.Cases.{by-cases}
+use Rattle.layout.proofs.ListLaws.{all-drop, all-at}
 use Rattle.reader.specs.declared.LoopStart.{LoopStart}
 use Rattle.reader.specs.declared.HpsReader.{HpsReader}
-use Rattle.reader.specs.OpeningAndReading.{Walked, refused, walked, walkFrom, Opened, onWalk, made, opening, Readable, offsetIn, offsetsFrom, dataRemaining}
+use Rattle.reader.specs.OpeningAndReading.{Walked, walked, walkFrom, made, offsetIn, offsetsFrom, dataRemaining}
 use Rattle.reader.specs.CuesReadBack.{looped, firstCursor}
 use Rattle.reader.proofs.OpenedLaws.{opened-parts, one-or-two}
 use Rattle.reader_laws.specs.ReaderLaws.{cueCount, Accepted, OpeningLaws}
-use Rattle.reader_laws.proofs.ChainLaws.{InSlot, all-at, Found, walk-found}
+use Rattle.reader_laws.proofs.ChainLaws.{Found, walk-found}
 use Rattle.reader_laws.proofs.CallLaws.{lengths-given, Listed, listed, nth-taken, nth-ended}
 
 at-most-one : (d : Bool) → pick d 1 0 ≤ 1
 at-most-one true = omega arith
 at-most-one false = omega arith
-
-all-drop : {A : Type 0} {Q : A → Type 0} (i : ℕ) (xs : List A) → All Q xs → All Q (drop i xs)
-all-drop zero xs a = a
-all-drop (suc i) [] a = none
-all-drop (suc i) (x ∷ xs) (more q a) = all-drop i xs a
 
 module _ (s : List ℕ) (rate count : ℕ) (l x : Channel) (os : List ℕ) (start : LoopStart) (c : wrongCount count ≡ false) (w : walkFrom blockLimit s [] firstBlockOffset ≡ Walked.walked os start) where
   abbrev r : HpsReader
@@ -63,7 +55,7 @@ module _ (s : List ℕ) (rate count : ℕ) (l x : Channel) (os : List ℕ) (star
         first = offset-is 0 (found .some) ∙ found .first;
         different = λ i j a b e. found .different i j a b (sym (offset-is i (omega arith)) ∙ e ∙ offset-is j b);
         loop = found .loop;
-        header = λ i h. rw (offset-is i h) (all-at os i (found .read) h);
+        header = λ i h. rw (offset-is i h) (all-at 0 os i (found .read) h);
         remaining = λ i. rw (offsets-are i) (lengths-given s (drop i os) (all-drop i os (found .read)));
         cue = nth-taken s r (end-of .yields) (end-of .taken);
         end = (length (end-of .answers), omega (arith, end-of .few, at-most-one (looped start)), nth-ended s r (end-of .yields));

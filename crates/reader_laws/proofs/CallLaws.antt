@@ -1,5 +1,5 @@
 -- Addresses remaining and the cue calls over blocks whose headers lie in the slot.
-use Prim.Native.Nat.{ℕ, zero, suc, _+_, _-_, _*_, _≤_, _<_}
+use Prim.Native.Nat.{ℕ, zero, suc, _+_, _-_, _*_, _≤_}
 use mathlib.Core.Path.{_≡_, refl, sym, ap, _∙_}
 use mathlib.Core.Bool.{Bool, true, false}
 use mathlib.Core.List.{List, [], _∷_}
@@ -15,9 +15,8 @@ use Rattle.layout.specs.declared.BlockHeader.{BlockHeader}
 use Rattle.layout.proofs.Cases.{by-cases, and-true}
 use Rattle.reader.specs.declared.HpsReader.{HpsReader}
 use Rattle.reader.specs.declared.CueIterator.{CueIterator}
-use Rattle.reader.specs.OpeningAndReading.{Remaining, addresses, offsetsFrom, lengthsAt}
-use Rattle.reader.specs.CuesReadBack.{CueAnswer, cursor, CueStep, stepped, loopHere, pointOf, baseAfter, cueFrom, cueStep}
-use Rattle.reader_laws.specs.ReaderLaws.{nthCue}
+use Rattle.reader.specs.OpeningAndReading.{addresses, offsetsFrom, lengthsAt}
+use Rattle.reader.specs.CuesReadBack.{CueAnswer, cursor, CueStep, stepped, loopHere, pointOf, baseAfter, cueFrom, nthCue}
 use Rattle.reader.proofs.HeaderLaws.{header-is}
 use Rattle.reader.proofs.PartsLaws.{lengths-cons}
 use Rattle.reader.proofs.CueLaws.{stepFrom, step-is, Yields, done, more as yield-more, yields-same, at-loop, at-point, at-next}

@@ -1,7 +1,6 @@
 -- What a walk that ends has found: blocks whose headers lie in the slot, at different offsets, the loop start among them.
 use Prim.Native.Nat.{ℕ, zero, suc, _+_, _≤_, _<_}
 use mathlib.Core.Path.{_≡_, refl, sym, ap, _∙_}
-use mathlib.Core.Bool.{Bool, true, false}
 use mathlib.Core.List.{List, [], _∷_, _++_}
 use native.Mathlib.Omega.{arith}
 use native.Mathlib.Nat.{le-of-suc-le-suc, not-suc-le-zero}
@@ -9,11 +8,11 @@ use lib.ListN.{length, getD, length-append, List·getD-append}
 use lib.Seq.{getD-append-seam}
 use lib.Dec.{ltb, eqb}
 use borrow.Author.Tests.{eq-eqb, ltb-true, ltb-false}
-use Rattle.layout.specs.Choice.{pick}
-use Rattle.layout.specs.Lists.{All, none, more, firstIndex}
+use Rattle.layout.specs.Lists.{All, firstIndex}
 use Rattle.layout.specs.Records.{Read, readHeader}
 use Rattle.layout.specs.declared.BlockHeader.{BlockHeader}
 use Rattle.layout.proofs.Cases.{by-cases}
+use Rattle.layout.proofs.ListLaws.{all-snoc}
 use Rattle.reader.specs.declared.LoopStart.{LoopStart}
 use Rattle.reader.specs.OpeningAndReading.{firstAt, Walked, walkFrom}
 use Rattle.reader.proofs.HeaderLaws.{header-cases}
@@ -28,15 +27,6 @@ found-by x [] i h e = absurd (not-suc-le-zero h)
 found-by x (y ∷ ys) zero h e = simp (eq-eqb y x e) (omega arith)
 found-by x (y ∷ ys) (suc i) h e =
     by-cases (eqb y x) (λ t. simp t (omega arith)) (λ t. simp t (omega (arith, found-by x ys i (le-of-suc-le-suc h) e)))
-
-all-snoc : {A : Type 0} {Q : A → Type 0} {xs : List A} {x : A} → All Q xs → Q x → All Q (xs ++ (x ∷ []))
-all-snoc none q = more q none
-all-snoc (more p a) q = more p (all-snoc a q)
-
-pub all-at : {Q : ℕ → Type 0} (xs : List ℕ) (i : ℕ) → All Q xs → i < length xs → Q (getD xs i 0)
-all-at [] i a h = absurd (not-suc-le-zero h)
-all-at (x ∷ xs) zero (more p a) h = p
-all-at (x ∷ xs) (suc i) (more p a) h = all-at xs i a (le-of-suc-le-suc h)
 
 -- pairwise different
 abbrev pub Different : List ℕ → Type 0

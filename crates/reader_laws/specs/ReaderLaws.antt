@@ -1,5 +1,5 @@
 -- What holds of every opening, and of the reading calls on the unchanged slot.
-use Prim.Native.Nat.{ℕ, zero, suc, _+_, _≤_, _<_}
+use Prim.Native.Nat.{ℕ, _+_, _≤_, _<_}
 use mathlib.Core.Path.{_≡_}
 use mathlib.Core.List.{List}
 use mathlib.Core.Logic.{_⊎_}
@@ -9,14 +9,8 @@ use Rattle.layout.specs.Refusals.{blockLimit}
 use Rattle.layout.specs.declared.BlockHeader.{BlockHeader}
 use Rattle.reader.specs.declared.LoopStart.{LoopStart}
 use Rattle.reader.specs.declared.HpsReader.{HpsReader}
-use Rattle.reader.specs.declared.CueIterator.{CueIterator}
 use Rattle.reader.specs.OpeningAndReading.{Opened, opening, Remaining, offsetIn, offsetsFrom, dataRemaining}
-use Rattle.reader.specs.CuesReadBack.{CueAnswer, firstCursor, cueStep}
-
--- The n-th cue call from a cursor, counted from 0.
-unfoldable pub nthCue : List ℕ → HpsReader → CueIterator → (n : ℕ) → CueAnswer
-nthCue s r c zero = cueStep s r c .answer
-nthCue s r c (suc n) = nthCue s r (cueStep s r c .after) n
+use Rattle.reader.specs.CuesReadBack.{CueAnswer, firstCursor, nthCue}
 
 -- The sum of the blocks' cue counts.
 unfoldable pub cueCount : List ℕ → HpsReader → ℕ

@@ -1,9 +1,4 @@
 // A slot's listing, which makes every cue call, and its block reads and addresses remaining, held to recorded answers.
-use block_reader::blocks::BlockCall;
-use block_reader::blocks::BlockReply;
-use block_reader::blocks::block_data;
-use channel_reader::read_at;
-use channel_reader::read_next;
 use check::same;
 use io::large_buffer;
 use key_listing::listing::fill;
@@ -11,10 +6,15 @@ use key_listing::start::start_listing;
 use layout::Channel;
 use layout::DspFormat;
 use layout::FrameContext;
-use puts::put_bytes;
+use layout_put::put_bytes;
 use reader::HpsReader;
-use remaining::RemainingReply;
-use remaining::data_remaining;
+use reader_block::BlockCall;
+use reader_block::BlockReply;
+use reader_block::block_data;
+use reader_channel::read_at;
+use reader_channel::read_next;
+use reader_remaining::RemainingReply;
+use reader_remaining::data_remaining;
 use stored::half;
 use stored::long;
 use stored::number;
@@ -25,7 +25,7 @@ ghost use Prim.Native.Nat.{_<_};
 ghost use mathlib.Core.Path.{_≡_};
 ghost use lib.ListN.{length};
 ghost use Rattle.reader.specs.OpeningAndReading.{Readable, blockRead};
-ghost use Rattle.block_reader.specs.BlockAnswers.{blockCall};
+ghost use Rattle.reader_block.specs.BlockAnswers.{blockCall};
 ghost use Rattle.layout.specs.Refusals.{blockLimit};
 
 // A listing has fewer than 5,000,000 bytes, and each turn compares 65,000 or the rest.

@@ -5,7 +5,9 @@ use check::same;
 use cue_writer::cue;
 use header_writer::finish::finish;
 use layout::FrameContext;
-use puts::put_bytes;
+use layout::least;
+use layout_put::put_bytes;
+use layout_read::channels::read_coefficients;
 use stored::half;
 use stored::long;
 use stored::number;
@@ -19,7 +21,7 @@ use writer::CueKind;
 use writer::HpsWriter;
 use writer::Looping;
 use writer::begin;
-ghost use Prim.Native.Nat.{_<_, _≤_};
+ghost use Prim.Native.Nat.{_<_};
 ghost use mathlib.Core.Path.{_≡_};
 ghost use lib.ListN.{length};
 ghost use Rattle.writer.specs.Calls.{Good};
@@ -53,24 +55,12 @@ fn kind(n: u32, length: u64) -> CueKind {
     }
 }
 
-// The 16 coefficients from here on.
-fn coefficients_at(s: &[u8], at: usize) -> [i16; 16]
-    requires { ⌜ at < 8589934604 ⌝ }
-{
-    let mut coefficients = [0i16; 16];
-    let mut i: usize = 0;
-    while i < 16 {
-        coefficients[i] = signed(s, at + 2 * i);
-        i += 1;
-    }
-    coefficients
-}
-
 // What a push says of a channel.
 fn side(s: &[u8], at: usize) -> ChannelBlock
     requires { ⌜ at < 8589934592 ⌝ }
 {
-    let coefficients = coefficients_at(s, at + 12);
+    let read = read_coefficients(s, at + 12);
+    let coefficients = read.coefficients;
     let context = FrameContext {
         predictor_and_scale: half(s, at + 46),
         last: signed(s, at + 48),
@@ -152,12 +142,6 @@ fn run_call(step: &[u8], w: HpsWriter, slot: &mut [u8], lent: &mut [u8]) -> Left
         lent,
     );
     Left { writer, good }
-}
-
-fn least(a: usize, b: usize) -> usize
-    ensures { λ r. ⌜ r ≤ b ⌝ }
-{
-    if a < b { a } else { b }
 }
 
 // A call that is lent so many bytes of this buffer.

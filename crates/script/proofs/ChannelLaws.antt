@@ -15,7 +15,7 @@ use Rattle.words.specs.declared.numbers.Small.{Small}
 use Rattle.script.specs.declared.channels.Coefficients.{Coefficients}
 use Rattle.script.specs.declared.channels.Context.{Context}
 use Rattle.script.specs.Lines.{decimalAt, smallAt, most16, most32, most64, coefficientsFrom, goodFrom, coefficientsOf, contextOf, dataWord, goodChannel, blockOf, channelLine}
-use Rattle.script.proofs.LineLaws.{both}
+use Rattle.layout.proofs.Cases.{both}
 
 -- ---- Coefficients
 

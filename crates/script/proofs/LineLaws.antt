@@ -14,10 +14,7 @@ use Rattle.writer.specs.declared.CueKind.{CueKind}
 use Rattle.script.specs.declared.kinds.Kind.{Kind}
 use Rattle.script.specs.declared.kinds.Kind.the-variants as Kinds
 use Rattle.script.specs.Lines.{place, isKind, cueNamed, cueLine}
-
-pub both : (a b : Bool) → a && b ≡ a and b
-both true b = refl
-both false b = refl
+use Rattle.layout.proofs.Cases.{both}
 
 tag-is : (k : Kind) → tagOf the-type k ≡ place k
 tag-is Kinds.Nothing = refl

@@ -1,5 +1,5 @@
 // Push's refusals by the data and the coefficients: the number due, 0 where none is.
-use sizes::adpcm_bytes;
+use layout_sizes::adpcm_bytes;
 ghost use mathlib.Core.Path.{_≡_};
 ghost use Rattle.layout.specs.Refusals.{firstDue};
 ghost use Rattle.writer.specs.Loading.{sameZ, dataDue, coefficientsDue};

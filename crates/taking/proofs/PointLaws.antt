@@ -12,13 +12,13 @@ use lib.Dec.{eqb}
 use Rattle.layout.specs.Lists.{sum, concat}
 use Rattle.layout.specs.Records.{P, be32, cueBytes, fillers, padded, sizeOf, blockHeader, blockBytes}
 use Rattle.layout.specs.Puts.{putAt}
-use Rattle.written.specs.HeaderPut.{headerPut}
+use Rattle.layout_put_block.specs.HeaderPut.{headerPut}
 use Rattle.layout.specs.Sizes.{saturated}
 use Rattle.layout.proofs.Lengths.{be32-length, cue-length, cues-length, filled-length, padded-length, data-length}
 use Rattle.layout.proofs.SizeLaws.{aligned}
-use Rattle.written.proofs.WrittenLaws.{put-length-32, header-put-is}
+use Rattle.layout_put_block.proofs.WrittenLaws.{put-length-32, header-put-is}
 use Rattle.layout.proofs.Cases.{by-cases}
-use Rattle.puts.proofs.PutLaws.{putAt-length, putAt-none, putAt-next, Put, put-then}
+use Rattle.layout.proofs.PutLaws.{putAt-length, putAt-none, putAt-next, Put, put-then}
 use Rattle.writer.specs.Loading.{loops, points, pointsOf}
 use Rattle.taking.specs.Taking.{cuePoint, pointBytes, filledBytes}
 use Rattle.writer.specs.Calls.{Good}

@@ -1,8 +1,8 @@
 // The cues that a block takes of the table, and their bytes (document 01, "Loading").
-use block_parts::put_fillers;
 use layout::limits::CUE_LIMIT;
 use layout::limits::CUE_POINT_SIZE;
-use puts::put_u32;
+use layout_put::put_u32;
+use layout_put_block::put_fillers;
 use writer::Cue;
 use writer::CueKind;
 ghost use mathlib.Core.Path.{_≡_};

@@ -12,7 +12,7 @@ use Rattle.layout.specs.Choice.{pick}
 use Rattle.layout.specs.Lists.{All, none, more, put}
 use Rattle.layout.specs.Types.{Bytes}
 use Rattle.layout.proofs.Cases.{by-cases}
-use Rattle.puts.proofs.PutLaws.{put-length, put-none}
+use Rattle.layout.proofs.PutLaws.{put-length, put-none}
 use Rattle.writer.specs.WritesAndCuttingRule.{Write, write, carried, CutLeaves, ended, torn, old, took}
 use Rattle.power_cut.specs.LoadingBook.{begun}
 use Rattle.power_cut.specs.PowerCut.{begin, allWrites, PowerCut}

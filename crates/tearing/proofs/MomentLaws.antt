@@ -11,7 +11,7 @@ use borrow.Author.Tests.{le-leb, lt-leb, leb-true, leb-false}
 use Rattle.layout.specs.Lists.{put}
 use Rattle.layout.specs.Puts.{putAt}
 use Rattle.layout.proofs.Cases.{by-cases}
-use Rattle.puts.proofs.PutLaws.{put-length, put-none, put-one, putAt-in}
+use Rattle.layout.proofs.PutLaws.{put-length, put-none, put-one, putAt-in}
 use Rattle.writer.specs.WritesAndCuttingRule.{Write, write, writesIn}
 use Rattle.writer.specs.declared.Place.{Place}
 use Rattle.tearing.specs.Moments.{reached, slotAt}

@@ -1,11 +1,12 @@
 // What a power cut leaves of the writes, moment by moment.
 use layout::fields::inside;
-use puts::put_bytes;
+use layout::least;
+use layout_put::put_bytes;
 use writer::MOST_WRITES;
 use writer::Place;
 ghost use mathlib.Core.Path.{_≡_};
 ghost use mathlib.Core.List.{List};
-ghost use Prim.Native.Nat.{ℕ, _+_, _≤_, min};
+ghost use Prim.Native.Nat.{ℕ, _+_, _≤_};
 ghost use lib.ListN.{length, take};
 ghost use Rattle.writer.specs.WritesAndCuttingRule.{write, writesIn, mostWrites};
 ghost use Rattle.tearing.specs.Moments.{reached, slotAt, EveryMoment, PowerCutAtMoments};
@@ -19,13 +20,6 @@ pub fn every_moment()
 pub fn power_cut_at_moments()
     ensures { λ _. ⌜ PowerCutAtMoments ⌝ }
 {}
-
-// The smaller of two.
-pub fn least(a: usize, b: usize) -> usize
-    ensures { λ r. ⌜ r ≡ min a b ⌝ }
-{
-    if a < b { a } else { b }
-}
 
 // The first n bytes of a write reach the slot.
 pub fn reach(slot: &mut [u8], at: usize, bytes: &[u8], n: usize)

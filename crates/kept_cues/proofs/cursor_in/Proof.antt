@@ -4,7 +4,7 @@ use Rattle.kept_cues.proofs.cursor_in.Statement.{statement}
 use Rattle.kept_cues.proofs.cursor_in.Tie as tie
 use Rattle.kept_cues.proofs.cursor_in.Reads as reads
 use Rattle.kept_cues.proofs.cursor_in.Lts as lts
-use Rattle.cue_starts.proofs.first_cursor.Reads as first-cursor-reads
+use Rattle.reader_cues.proofs.first_cursor.Reads as first-cursor-reads
 use Rattle.kept_reader.proofs.fields.long.Reads as long-reads
 use Rattle.kept_reader.proofs.fields.word.Reads as word-reads
 

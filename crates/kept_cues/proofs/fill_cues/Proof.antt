@@ -4,14 +4,15 @@ use native.Mathlib.Omega.{arith}
 use lib.ListN.{length}
 use Rattle.reader.specs.declared.HpsReader.{HpsReader}
 use Rattle.reader.specs.CuesReadBack.{cursor}
-use Rattle.cue_reader.specs.CueAnswers.{PartsOf}
+use Rattle.reader_cues.specs.CueAnswers.{PartsOf}
+use Rattle.reader_cues.proofs.NextCueLaws.{step-of-parts}
 use Rattle.kept_cues.proofs.FillLaws.{Room, Filling, room-none, filling-none, all-more, all-last, all-end}
 use borrow.Author.Needs.{needs}
 use Rattle.kept_cues.proofs.fill_cues.Statement.{statement}
 use Rattle.kept_cues.proofs.fill_cues.Tie as tie
 use Rattle.kept_cues.proofs.fill_cues.Reads as reads
 use Rattle.kept_cues.proofs.fill_cues.Lts as lts
-use Rattle.cue_reader.proofs.cue_from.Reads as cue-from-reads
+use Rattle.reader_cues.proofs.cue_from.Reads as cue-from-reads
 use Rattle.kept_cues.proofs.filled.Reads as filled-reads
 use Rattle.cue_bytes.proofs.put_reply.Reads as put-reply-reads
 
@@ -30,7 +31,7 @@ sub-loop : tie.Need-sub-loop Inv-loop μ-loop
 sub-loop c = omega (arith, c .loop .inv .0 .same, c .loop .inv .0 .fits)
 
 cue-from-requires : tie.Need-cue-from-requires Inv-loop μ-loop
-cue-from-requires c κs = c .before .before .before .before .before .pre
+cue-from-requires c κs = search needs
 
 put-reply-requires : tie.Need-put-reply-requires Inv-loop μ-loop
 put-reply-requires c κs = omega arith
@@ -44,7 +45,7 @@ same-length c = c .before .before .before .out .given ∙ c .before .before .bef
 returns : tie.Need-returns Inv-loop μ-loop
 returns c =
     let i = c .before .before .before .before .before .before .before .before .before .loop .inv in
-    let w = all-last _ _ _ _ _ _ _ _ _ _ _ (i .0) (i .1) (c .before .before .before .before .before .before .before .before .loop-test .taken) _ (c .before .before .before .before .before .before .before .cue-from .ensures) (c .before .before .before .before .put-reply .ensures .0) (c .before .before .before .before .put-reply .ensures .1) (c .before .if1 .taken) (c .filled .ensures) in
+    let w = all-last _ _ _ _ _ _ _ _ _ _ _ (i .0) (i .1) (c .before .before .before .before .before .before .before .before .loop-test .taken) _ (step-of-parts _ _ _ _ _ _ (c .before .before .before .before .before .before .before .cue-from .ensures)) (c .before .before .before .before .put-reply .ensures .0) (c .before .before .before .before .put-reply .ensures .1) (c .before .if1 .taken) (c .filled .ensures) in
     (λ r p. w r p .0, λ r p. w r p .1)
 
 add-at : tie.Need-add-at Inv-loop μ-loop
@@ -59,7 +60,7 @@ loop-less c = search needs
 loop-again : tie.Need-loop-again Inv-loop μ-loop
 loop-again c =
     let i = c .before .before .before .before .before .before .before .before .loop .inv in
-    all-more _ _ _ _ _ _ _ _ _ _ _ (i .0) (i .1) (c .before .before .before .before .before .before .before .loop-test .taken) _ (c .before .before .before .before .before .before .cue-from .ensures) (c .before .before .before .put-reply .ensures .0) (c .before .before .before .put-reply .ensures .1) (c .if1 .left) (c .before .before .out .given)
+    all-more _ _ _ _ _ _ _ _ _ _ _ (i .0) (i .1) (c .before .before .before .before .before .before .before .loop-test .taken) _ (step-of-parts _ _ _ _ _ _ (c .before .before .before .before .before .before .cue-from .ensures)) (c .before .before .before .put-reply .ensures .0) (c .before .before .before .put-reply .ensures .1) (c .if1 .left) (c .before .before .out .given)
 
 filled-requires-2 : tie.Need-filled-requires-2 Inv-loop μ-loop
 filled-requires-2 c κs = tt

@@ -6,7 +6,7 @@ use Rattle.kept_cues.proofs.put_cursor.Tie as tie
 use Rattle.kept_cues.proofs.put_cursor.Reads as reads
 use Rattle.kept_cues.proofs.put_cursor.Lts as lts
 use Rattle.kept_reader.proofs.fields.put_long.Reads as put-long-reads
-use Rattle.puts.proofs.put_u32.Reads as put-u32-reads
+use Rattle.layout_put.proofs.put_u32.Reads as put-u32-reads
 
 put-long-requires : tie.Need-put-long-requires
 put-long-requires c κs = omega arith

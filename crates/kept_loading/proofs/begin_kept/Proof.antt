@@ -3,7 +3,7 @@ use native.Mathlib.Omega.{arith}
 use lib.ListN.{length}
 use borrow.Author.Tests.{lt-ltb, le-ltb}
 use Rattle.layout.specs.Puts.{putAt}
-use Rattle.puts.proofs.PutLaws.{putAt-length}
+use Rattle.layout.proofs.PutLaws.{putAt-length}
 use Rattle.writer.specs.Calls.{called, beginOf}
 use Rattle.writer.specs.declared.Called.{Called}
 use Rattle.kept_loading.specs.KeptLoading.{callIn, callOf}

@@ -6,8 +6,8 @@ use Rattle.kept_opened.proofs.put_file.Statement.{statement}
 use Rattle.kept_opened.proofs.put_file.Tie as tie
 use Rattle.kept_opened.proofs.put_file.Reads as reads
 use Rattle.kept_opened.proofs.put_file.Lts as lts
-use Rattle.puts.proofs.put_bytes.Reads as put-bytes-reads
-use Rattle.puts.proofs.put_zeros.Reads as put-zeros-reads
+use Rattle.layout_put.proofs.put_bytes.Reads as put-bytes-reads
+use Rattle.layout_put.proofs.put_fill.Reads as put-fill-reads
 
 slice-aggregate-put-bytes : tie.Need-slice-aggregate-put-bytes
 slice-aggregate-put-bytes c = rw length-take (omega arith)
@@ -27,8 +27,8 @@ slice-aggregate-put-bytes-2 c = rw length-take (omega arith)
 put-bytes-requires-2 : tie.Need-put-bytes-requires-2
 put-bytes-requires-2 c κs = search needs
 
-put-zeros-requires : tie.Need-put-zeros-requires
-put-zeros-requires c κs = search needs
+put-fill-requires : tie.Need-put-fill-requires
+put-fill-requires c κs = search needs
 
 same-length-2 : tie.Need-same-length-2
 same-length-2 c = search needs
@@ -46,6 +46,6 @@ put-file-spec =
     returns
     slice-aggregate-put-bytes-2
     put-bytes-requires-2
-    put-zeros-requires
+    put-fill-requires
     same-length-2
     returns-2)

@@ -6,7 +6,7 @@ use Rattle.kept_opened.proofs.put_offsets.Statement.{statement}
 use Rattle.kept_opened.proofs.put_offsets.Tie as tie
 use Rattle.kept_opened.proofs.put_offsets.Reads as reads
 use Rattle.kept_opened.proofs.put_offsets.Lts as lts
-use Rattle.puts.proofs.put_u32.Reads as put-u32-reads
+use Rattle.layout_put.proofs.put_u32.Reads as put-u32-reads
 use Rattle.layout.specs.Refusals.{blockLimit}
 
 abbrev Inv-loop : tie.InvT-loop

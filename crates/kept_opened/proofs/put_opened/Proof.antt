@@ -21,20 +21,20 @@ put-u32-requires-2 c κs = search needs
 put-offsets-requires : tie.Need-put-offsets-requires
 put-offsets-requires c κs = search needs
 
-mul-put-zeros : tie.Need-mul-put-zeros
-mul-put-zeros c = search needs
+mul-put-fill : tie.Need-mul-put-fill
+mul-put-fill c = search needs
 
-add-put-zeros : tie.Need-add-put-zeros
-add-put-zeros c = search needs
+add-put-fill : tie.Need-add-put-fill
+add-put-fill c = search needs
 
-mul-put-zeros-2 : tie.Need-mul-put-zeros-2
-mul-put-zeros-2 c = search needs
+mul-put-fill-2 : tie.Need-mul-put-fill-2
+mul-put-fill-2 c = search needs
 
-sub-put-zeros : tie.Need-sub-put-zeros
-sub-put-zeros c = search needs
+sub-put-fill : tie.Need-sub-put-fill
+sub-put-fill c = search needs
 
-put-zeros-requires : tie.Need-put-zeros-requires
-put-zeros-requires c κs = search needs
+put-fill-requires : tie.Need-put-fill-requires
+put-fill-requires c κs = search needs
 
 same-length : tie.Need-same-length
 same-length c = search needs
@@ -48,7 +48,7 @@ returns c =
     (c .before .before .before .before .before .before .before .before .before .before .before .loop-number .ensures)
     (c .before .before .before .before .before .before .before .before .before .before .put-u322 .ensures)
     (c .before .before .before .before .before .before .put-offsets .ensures)
-    (c .before .before .put-zeros .ensures)
+    (c .before .before .put-fill .ensures)
 
 pub put-opened-spec : {M : Type 1} → statement M
 put-opened-spec =
@@ -60,10 +60,10 @@ put-opened-spec =
     loop-number-requires
     put-u32-requires-2
     put-offsets-requires
-    mul-put-zeros
-    add-put-zeros
-    mul-put-zeros-2
-    sub-put-zeros
-    put-zeros-requires
+    mul-put-fill
+    add-put-fill
+    mul-put-fill-2
+    sub-put-fill
+    put-fill-requires
     same-length
     returns)

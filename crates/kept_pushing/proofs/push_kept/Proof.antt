@@ -45,7 +45,7 @@ use Rattle.kept_writer.proofs.loader.with_stream.Reads as with-stream-reads
 use Rattle.push_advance.proofs.advance.Reads as advance-reads
 use Rattle.push_plan.proofs.block_end.Reads as block-end-reads
 use Rattle.push_plan.proofs.plan_push.Reads as plan-push-reads
-use Rattle.written.proofs.put_header.Reads as put-header-reads
+use Rattle.layout_put_block.proofs.put_header.Reads as put-header-reads
 
 -- ---- What is known at the places of the code
 

@@ -8,7 +8,7 @@ use Rattle.kept_puts.proofs.flag.Reads as flag-reads
 use Rattle.kept_puts.proofs.loop_number.Reads as loop-number-reads
 use Rattle.kept_puts.proofs.mode_number.Reads as mode-number-reads
 use Rattle.kept_reader.proofs.fields.put_long.Reads as put-long-reads
-use Rattle.puts.proofs.put_u32.Reads as put-u32-reads
+use Rattle.layout_put.proofs.put_u32.Reads as put-u32-reads
 
 loop-number-requires : tie.Need-loop-number-requires
 loop-number-requires c κs = search needs

@@ -5,9 +5,9 @@ use Rattle.push_due.proofs.length_due.Statement.{statement}
 use Rattle.push_due.proofs.length_due.Tie as tie
 use Rattle.push_due.proofs.length_due.Reads as reads
 use Rattle.push_due.proofs.length_due.Lts as lts
-use Rattle.sizes.proofs.adpcm_bytes.Reads as adpcm-bytes-reads
+use Rattle.layout_sizes.proofs.adpcm_bytes.Reads as adpcm-bytes-reads
 use Rattle.push_due.proofs.differ.Reads as differ-reads
-use Rattle.sizes.proofs.size_limit.Reads as size-limit-reads
+use Rattle.layout_sizes.proofs.size_limit.Reads as size-limit-reads
 
 differ-requires : tie.Need-differ-requires
 differ-requires c κs = search needs

@@ -5,7 +5,7 @@ use Rattle.push_plan.proofs.block_end.Statement.{statement}
 use Rattle.push_plan.proofs.block_end.Tie as tie
 use Rattle.push_plan.proofs.block_end.Reads as reads
 use Rattle.push_plan.proofs.block_end.Lts as lts
-use Rattle.sizes.proofs.adpcm_samples.Reads as adpcm-samples-reads
+use Rattle.layout_sizes.proofs.adpcm_samples.Reads as adpcm-samples-reads
 
 adpcm-samples-requires : tie.Need-adpcm-samples-requires
 adpcm-samples-requires c κs = search needs

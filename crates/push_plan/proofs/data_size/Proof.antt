@@ -5,7 +5,7 @@ use Rattle.push_plan.proofs.data_size.Statement.{statement}
 use Rattle.push_plan.proofs.data_size.Tie as tie
 use Rattle.push_plan.proofs.data_size.Reads as reads
 use Rattle.push_plan.proofs.data_size.Lts as lts
-use Rattle.sizes.proofs.align.Reads as align-reads
+use Rattle.layout_sizes.proofs.align.Reads as align-reads
 
 align-requires : tie.Need-align-requires
 align-requires c κs = search needs

@@ -5,7 +5,7 @@ use Rattle.push_plan.proofs.data_start.Statement.{statement}
 use Rattle.push_plan.proofs.data_start.Tie as tie
 use Rattle.push_plan.proofs.data_start.Reads as reads
 use Rattle.push_plan.proofs.data_start.Lts as lts
-use Rattle.sizes.proofs.align.Reads as align-reads
+use Rattle.layout_sizes.proofs.align.Reads as align-reads
 
 mul-align : tie.Need-mul-align
 mul-align c = search needs

@@ -5,7 +5,7 @@ use Rattle.sides_due.proofs.data_due.Statement.{statement}
 use Rattle.sides_due.proofs.data_due.Tie as tie
 use Rattle.sides_due.proofs.data_due.Reads as reads
 use Rattle.sides_due.proofs.data_due.Lts as lts
-use Rattle.sizes.proofs.adpcm_bytes.Reads as adpcm-bytes-reads
+use Rattle.layout_sizes.proofs.adpcm_bytes.Reads as adpcm-bytes-reads
 
 adpcm-bytes-requires : tie.Need-adpcm-bytes-requires
 adpcm-bytes-requires c κs = search needs

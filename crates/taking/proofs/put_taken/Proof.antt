@@ -5,7 +5,7 @@ use Rattle.taking.proofs.put_taken.Statement.{statement}
 use Rattle.taking.proofs.put_taken.Tie as tie
 use Rattle.taking.proofs.put_taken.Reads as reads
 use Rattle.taking.proofs.put_taken.Lts as lts
-use Rattle.block_parts.proofs.put_fillers.Reads as put-fillers-reads
+use Rattle.layout_put_block.proofs.put_fillers.Reads as put-fillers-reads
 use Rattle.taking.proofs.put_points.Reads as put-points-reads
 
 put-points-requires : tie.Need-put-points-requires

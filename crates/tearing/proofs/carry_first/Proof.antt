@@ -6,7 +6,7 @@ use Rattle.tearing.proofs.carry_first.Statement.{statement}
 use Rattle.tearing.proofs.carry_first.Tie as tie
 use Rattle.tearing.proofs.carry_first.Reads as reads
 use Rattle.tearing.proofs.carry_first.Lts as lts
-use Rattle.tearing.proofs.least.Reads as least-reads
+use Rattle.layout.proofs.least.Reads as least-reads
 use Rattle.tearing.proofs.reach.Reads as reach-reads
 
 abbrev Inv-loop : tie.InvT-loop

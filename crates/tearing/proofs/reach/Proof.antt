@@ -9,8 +9,8 @@ use Rattle.tearing.proofs.reach.Tie as tie
 use Rattle.tearing.proofs.reach.Reads as reads
 use Rattle.tearing.proofs.reach.Lts as lts
 use Rattle.layout.proofs.fields.inside.Reads as inside-reads
-use Rattle.puts.proofs.put_bytes.Reads as put-bytes-reads
-use Rattle.tearing.proofs.least.Reads as least-reads
+use Rattle.layout_put.proofs.put_bytes.Reads as put-bytes-reads
+use Rattle.layout.proofs.least.Reads as least-reads
 
 -- src/lib.rt:30:8
 inside-requires : tie.Need-inside-requires

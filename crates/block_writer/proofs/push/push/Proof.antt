@@ -21,7 +21,7 @@ use Rattle.push_plan.proofs.plan_push.Reads as plan-push-reads
 use Rattle.taking.proofs.any_loop.Reads as any-loop-reads
 use Rattle.taking.proofs.put_taken.Reads as put-taken-reads
 use Rattle.taking.proofs.take.Reads as take-reads
-use Rattle.written.proofs.put_header.Reads as put-header-reads
+use Rattle.layout_put_block.proofs.put_header.Reads as put-header-reads
 
 -- ---- What is known at the places of the code
 

@@ -5,8 +5,8 @@ use Rattle.block_writer.proofs.push.put_data.Statement.{statement}
 use Rattle.block_writer.proofs.push.put_data.Tie as tie
 use Rattle.block_writer.proofs.push.put_data.Reads as reads
 use Rattle.block_writer.proofs.push.put_data.Lts as lts
-use Rattle.sizes.proofs.align.Reads as align-reads
-use Rattle.block_parts.proofs.put_padded.Reads as put-padded-reads
+use Rattle.layout_sizes.proofs.align.Reads as align-reads
+use Rattle.layout_put_block.proofs.put_padded.Reads as put-padded-reads
 
 put-padded-requires : tie.Need-put-padded-requires
 put-padded-requires c κs = search needs

@@ -10,7 +10,7 @@ use Rattle.hps.proofs.reading.hps_block.Statement.{statement}
 use Rattle.hps.proofs.reading.hps_block.Tie as tie
 use Rattle.hps.proofs.reading.hps_block.Reads as reads
 use Rattle.hps.proofs.reading.hps_block.Lts as lts
-use Rattle.block_reader.proofs.blocks.read_block.Reads as read-block-reads
+use Rattle.reader_block.proofs.read_block.Reads as read-block-reads
 use Rattle.hps.proofs.reading.past.Reads as past-reads
 use Rattle.kept_reader.proofs.opened.reader_in.Reads as reader-in-reads
 

@@ -6,7 +6,7 @@ use Rattle.hps.proofs.reading.hps_remaining.Statement.{statement}
 use Rattle.hps.proofs.reading.hps_remaining.Tie as tie
 use Rattle.hps.proofs.reading.hps_remaining.Reads as reads
 use Rattle.hps.proofs.reading.hps_remaining.Lts as lts
-use Rattle.remaining.proofs.data_remaining.Reads as data-remaining-reads
+use Rattle.reader_remaining.proofs.data_remaining.Reads as data-remaining-reads
 use Rattle.kept_reader.proofs.opened.reader_in.Reads as reader-in-reads
 
 reader-in-requires : tie.Need-reader-in-requires

@@ -4,7 +4,7 @@ use Rattle.kept_reader.proofs.fields.put_long.Statement.{statement}
 use Rattle.kept_reader.proofs.fields.put_long.Tie as tie
 use Rattle.kept_reader.proofs.fields.put_long.Reads as reads
 use Rattle.kept_reader.proofs.fields.put_long.Lts as lts
-use Rattle.puts.proofs.put_u32.Reads as put-u32-reads
+use Rattle.layout_put.proofs.put_u32.Reads as put-u32-reads
 
 cast-put-u32 : tie.Need-cast-put-u32
 cast-put-u32 c = search needs

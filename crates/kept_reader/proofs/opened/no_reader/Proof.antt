@@ -4,7 +4,7 @@ use Rattle.kept_reader.proofs.opened.no_reader.Statement.{statement}
 use Rattle.kept_reader.proofs.opened.no_reader.Tie as tie
 use Rattle.kept_reader.proofs.opened.no_reader.Reads as reads
 use Rattle.kept_reader.proofs.opened.no_reader.Lts as lts
-use Rattle.header_records.proofs.channels.no_channel.Reads as no-channel-reads
+use Rattle.layout.proofs.no_channel.Reads as no-channel-reads
 
 no-channel-requires : tie.Need-no-channel-requires
 no-channel-requires c κs = search needs

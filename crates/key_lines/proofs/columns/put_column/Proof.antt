@@ -5,7 +5,7 @@ use Rattle.layout.specs.Puts.{putAt}
 use native.Mathlib.Omega.{arith}
 use borrow.Author.Needs.{needs}
 use Rattle.layout.proofs.FieldLaws.{passed, failed}
-use Rattle.puts.proofs.PutLaws.{putAt-out, putAt-length}
+use Rattle.layout.proofs.PutLaws.{putAt-out, putAt-length}
 use Rattle.key_lines.proofs.ColumnLaws.{column-length, Placing, placing-none, placing-more, placing-blank, placing-all}
 use Rattle.key_lines.proofs.columns.put_column.Statement.{statement}
 use Rattle.key_lines.proofs.columns.put_column.Tie as tie
@@ -34,18 +34,18 @@ add-out c = omega arith
 slice-write-out : tie.Need-slice-write-out Inv-loop μ-loop
 slice-write-out c = omega arith
 
-put-blanks-requires : tie.Need-put-blanks-requires Inv-loop μ-loop
-put-blanks-requires c κs = search needs
+put-fill-requires : tie.Need-put-fill-requires Inv-loop μ-loop
+put-fill-requires c κs = search needs
 
 same-length : tie.Need-same-length Inv-loop μ-loop
 same-length c =
-    ap length (c .before .before .put-blanks .ensures)
+    ap length (c .before .before .put-fill .ensures)
     ∙ simp (putAt-length, length-set) (c .before .before .before .before .before .before .before .loop .inv .same)
 
 returns : tie.Need-returns Inv-loop μ-loop
 returns c =
     placing-blank (c .before .before .before .before .before .before .before .loop .inv) (c .before .before .before .before .before .before .loop-test .taken)
-    (c .before .before .before .before .if2 .taken) _ (c .before .before .before .before .before .digit .ensures) _ (c .before .before .put-blanks .ensures)
+    (c .before .before .before .before .if2 .taken) _ (c .before .before .before .before .before .digit .ensures) _ (c .before .before .put-fill .ensures)
 
 loop-less : tie.Need-loop-less Inv-loop μ-loop
 loop-less c = omega arith
@@ -74,7 +74,7 @@ put-column-spec =
     digit-requires
     add-out
     slice-write-out
-    put-blanks-requires
+    put-fill-requires
     same-length
     returns
     loop-less

@@ -1,7 +1,7 @@
 use mathlib.Core.Path.{refl, sym}
 use native.Mathlib.Omega.{arith}
 use borrow.Author.Needs.{needs}
-use Rattle.puts.proofs.PutLaws.{putAt-none}
+use Rattle.layout.proofs.PutLaws.{putAt-none}
 use Rattle.key_lines.proofs.ColumnLaws.{column-length}
 use Rattle.key_lines.proofs.LineLaws.{field-as}
 use Rattle.key_lines.proofs.columns.put_field.Statement.{statement}

@@ -1,6 +1,6 @@
 use mathlib.Core.Path.{refl}
 use native.Mathlib.Omega.{arith}
-use Rattle.layout.proofs.FieldLaws.{answer-in, answer-out, passed, failed}
+use Rattle.layout.proofs.FieldLaws.{answer-in, answer-out}
 use borrow.Author.Needs.{needs}
 use Rattle.layout.proofs.fields.read_u8.Statement.{statement}
 use Rattle.layout.proofs.fields.read_u8.Tie as tie

@@ -1,6 +1,6 @@
 use denote.Ref.{now}
 use borrow.Author.Needs.{needs}
-use Rattle.channel_reader.proofs.ChannelLaws.{read-on}
+use Rattle.reader_channel.proofs.ChannelLaws.{read-on}
 use Rattle.replay.proofs.slot.reader_answer.Statement.{statement}
 use Rattle.replay.proofs.slot.reader_answer.Tie as tie
 

@@ -5,7 +5,7 @@ use Rattle.replay_loads.proofs.loading.lend.Statement.{statement}
 use Rattle.replay_loads.proofs.loading.lend.Tie as tie
 use Rattle.replay_loads.proofs.loading.lend.Reads as reads
 use Rattle.replay_loads.proofs.loading.lend.Lts as lts
-use Rattle.replay_loads.proofs.loading.least.Reads as least-reads
+use Rattle.layout.proofs.least.Reads as least-reads
 use Rattle.replay_loads.proofs.loading.run_call.Reads as run-call-reads
 use Rattle.stored.proofs.size.Reads as size-reads
 

@@ -1,5 +1,5 @@
 use Rattle.script.specs.Lines.{cueNamed}
-use Rattle.script.proofs.LineLaws.{both}
+use Rattle.layout.proofs.Cases.{both}
 use borrow.Author.Needs.{needs}
 use Rattle.script.proofs.lines.cue_named.Statement.{statement}
 use Rattle.script.proofs.lines.cue_named.Tie as tie

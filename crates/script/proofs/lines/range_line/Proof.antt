@@ -1,5 +1,5 @@
 use Rattle.script.specs.Lines.{rangeLine}
-use Rattle.script.proofs.LineLaws.{both}
+use Rattle.layout.proofs.Cases.{both}
 use borrow.Author.Needs.{needs}
 use Rattle.script.proofs.lines.range_line.Statement.{statement}
 use Rattle.script.proofs.lines.range_line.Tie as tie

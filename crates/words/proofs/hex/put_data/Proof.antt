@@ -4,7 +4,7 @@ use mathlib.Core.Path.{sym}
 use native.Mathlib.Omega.{arith}
 use lib.ListN.{length}
 use Rattle.layout.proofs.FieldLaws.{passed, failed}
-use Rattle.puts.proofs.PutLaws.{Putting, putting-none, putting-more, putting-all, putAt-out}
+use Rattle.layout.proofs.PutLaws.{Putting, putting-none, putting-more, putting-all, putAt-out}
 use Rattle.words.specs.Data.{dataOf}
 use Rattle.words.proofs.DataLaws.{data-length, data-at, count-inside, count-outside}
 use Rattle.words.proofs.hex.put_data.Statement.{statement}

@@ -1,2 +1,0 @@
-pub mod ChannelLaws
-pub mod MagicLaws

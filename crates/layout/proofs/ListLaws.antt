@@ -1,0 +1,58 @@
+-- Lists: laws that the libraries lack. What holds of every element, bytes one after the other, the same element n times.
+use Prim.Native.Nat.{ℕ, zero, suc, _+_, _*_, _<_}
+use mathlib.Core.Path.{_≡_, refl, sym, ap, _∙_}
+use mathlib.Core.List.{List, [], _∷_, _++_, append-assoc, append-nil}
+use native.Mathlib.Omega.{arith}
+use native.Mathlib.Nat.{le-of-suc-le-suc, not-suc-le-zero}
+use lib.ListN.{length, drop, getD, replicate, length-append}
+use Rattle.layout.specs.Lists.{All, none, more, concat}
+
+-- ---- Every element
+
+module _ {A : Type 0} {Q : A → Type 0} where
+  pub all-append : {xs ys : List A} → All Q xs → All Q ys → All Q (xs ++ ys)
+  all-append none b = b
+  all-append (more q a) b = more q (all-append a b)
+
+  -- one more element
+  pub all-snoc : {xs : List A} {x : A} → All Q xs → Q x → All Q (xs ++ (x ∷ []))
+  all-snoc a q = all-append a (more q none)
+
+  pub all-each : {R : A → Type 0} {xs : List A} → ((x : A) → Q x → R x) → All Q xs → All R xs
+  all-each f none = none
+  all-each f (more {x = x} q a) = more (f x q) (all-each f a)
+
+  pub all-drop : (i : ℕ) (xs : List A) → All Q xs → All Q (drop i xs)
+  all-drop zero xs a = a
+  all-drop (suc i) [] a = none
+  all-drop (suc i) (x ∷ xs) (more q a) = all-drop i xs a
+
+  pub all-at : (d : A) (xs : List A) (i : ℕ) → All Q xs → i < length xs → Q (getD xs i d)
+  all-at d [] i a h = absurd (not-suc-le-zero h)
+  all-at d (x ∷ xs) zero (more p a) h = p
+  all-at d (x ∷ xs) (suc i) (more p a) h = all-at d xs i a (le-of-suc-le-suc h)
+
+  pub all-same : (n : ℕ) (x : A) → Q x → All Q (replicate n x)
+  all-same zero x q = none
+  all-same (suc n) x q = more q (all-same n x q)
+
+-- ---- Bytes one after the other
+
+module _ {A : Type 0} (f : A → List ℕ) where
+  pub concat-snoc : (xs : List A) (x : A) → concat f (xs ++ (x ∷ [])) ≡ concat f xs ++ f x
+  unfolding concat
+  concat-snoc [] x = append-nil (f x)
+  concat-snoc (y ∷ ys) x = ap (λ (l : List ℕ). f y ++ l) (concat-snoc ys x) ∙ sym (append-assoc (f y) (concat f ys) (f x))
+
+  -- of elements of n bytes each
+  pub concat-length : (n : ℕ) → ((x : A) → length (f x) ≡ n) → (xs : List A) → length (concat f xs) ≡ n * length xs
+  unfolding concat
+  concat-length n h [] = omega arith
+  concat-length n h (x ∷ xs) = length-append (f x) (concat f xs) ∙ omega (arith, h x, concat-length n h xs)
+
+-- ---- Zeros
+
+pub zeros-at : (n k : ℕ) → _≡_ {A = ℕ} (getD (replicate n 0) k 0) 0
+zeros-at zero k = refl
+zeros-at (suc n) zero = refl
+zeros-at (suc n) (suc k) = zeros-at n k

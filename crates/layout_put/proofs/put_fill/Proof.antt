@@ -1,0 +1,62 @@
+use Prim.Native.Nat.{_-_}
+use mathlib.Core.Path.{sym}
+use lib.ListN.{replicate, length-replicate, getD-replicate}
+use native.Mathlib.Omega.{arith}
+use borrow.Author.Needs.{needs}
+use Rattle.layout.proofs.FieldLaws.{passed, failed}
+use Rattle.layout.proofs.PutLaws.{Putting, putting-none, putting-more, putting-all, putAt-out}
+use Rattle.layout_put.proofs.put_fill.Statement.{statement}
+use Rattle.layout_put.proofs.put_fill.Tie as tie
+
+abbrev Inv-loop : tie.InvT-loop
+Inv-loop buf₀ at n byte j₀ buf j = Putting buf₀ at (replicate n byte) n buf j
+
+abbrev μ-loop : tie.MeasureT-loop
+μ-loop buf₀ at n byte j₀ buf j = n - j
+
+inside-requires : tie.Need-inside-requires Inv-loop μ-loop
+inside-requires c κs = search needs
+
+loop-holds : tie.Need-loop-holds Inv-loop μ-loop
+loop-holds c = putting-none (length-replicate _ _) (passed (c .before .inside .ensures) (c .if1 .taken))
+
+add-buf : tie.Need-add-buf Inv-loop μ-loop
+add-buf c = omega arith
+
+slice-write-buf : tie.Need-slice-write-buf Inv-loop μ-loop
+slice-write-buf c = omega arith
+
+add-j : tie.Need-add-j Inv-loop μ-loop
+add-j c = omega arith
+
+loop-less : tie.Need-loop-less Inv-loop μ-loop
+loop-less c = omega arith
+
+loop-again : tie.Need-loop-again Inv-loop μ-loop
+loop-again c = rw (getD-replicate _ _ _ _ (c .loop-test .taken)) at (putting-more (c .before .loop .inv) (c .loop-test .taken))
+
+same-length : tie.Need-same-length Inv-loop μ-loop
+same-length c = omega arith
+
+returns : tie.Need-returns Inv-loop μ-loop
+returns c = putting-all (c .before .loop .inv) (omega arith)
+
+returns-2 : tie.Need-returns-2 Inv-loop μ-loop
+returns-2 c = sym (putAt-out _ _ _ (rw length-replicate (failed (c .before .inside .ensures) (c .if1 .left))))
+
+pub put-fill-spec : {M : Type 1} → statement M
+put-fill-spec =
+    tie.close
+    (tie.spec
+    Inv-loop
+    μ-loop
+    inside-requires
+    loop-holds
+    add-buf
+    slice-write-buf
+    add-j
+    loop-less
+    loop-again
+    same-length
+    returns
+    returns-2)

@@ -1,0 +1,2 @@
+pub mod DataPlaceLaws
+pub mod BlockLaws

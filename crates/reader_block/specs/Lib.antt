@@ -1,0 +1,2 @@
+pub mod DataPlaces
+pub mod BlockAnswers

@@ -1,16 +1,16 @@
 // The marking key of every moment of a loading; `help` says how it is used.
-use cuts::Ask;
-use cuts::answer;
-use cuts::files::read_file;
-use cuts::files::script_room;
+use cut_answer::Ask;
+use cut_answer::answer;
+use cut_answer::files::read_file;
+use cut_answer::files::script_room;
 use io::buffer;
 use io::read_full;
 use io::write_all;
 use key_print::slot_room;
 use libc::STDERR_FILENO;
 use libc::STDOUT_FILENO;
-use words::numbers::Number;
-use words::numbers::unsigned;
+use script_words::numbers::Number;
+use script_words::numbers::unsigned;
 
 fn tell(text: &[u8]) {
     write_all(STDERR_FILENO, text);

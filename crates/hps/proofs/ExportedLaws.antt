@@ -11,14 +11,14 @@ use Rattle.layout.proofs.Cases.{by-cases}
 use Rattle.layout.specs.Choice.{pick}
 use Rattle.layout.specs.Puts.{putAt}
 use Rattle.writer.specs.Loading.{Answer, accepted, refused}
-use Rattle.kept_loading.specs.KeptLoading.{noCall, onKept, givenAfter}
-use Rattle.kept_loading.specs.declared.KeptCall.{KeptCall}
-use Rattle.kept_writer.specs.KeptWriter.{streamIn}
+use Rattle.c_loading.specs.KeptLoading.{noCall, onKept, givenAfter}
+use Rattle.c_loading.specs.declared.KeptCall.{KeptCall}
+use Rattle.c_record.specs.KeptWriter.{streamIn}
 use Rattle.writer.specs.Calls.{Outcome}
-use Rattle.estimate.specs.EstimateAnswers.{estimateReply}
-use Rattle.estimate.specs.declared.EstimateReply.{EstimateReply}
+use Rattle.writer_estimate.specs.EstimateAnswers.{estimateReply}
+use Rattle.writer_estimate.specs.declared.EstimateReply.{EstimateReply}
 use Rattle.reader.specs.OpeningAndReading.{Opened, blockRead, Remaining}
-use Rattle.kept_reader.specs.KeptReader.{openedBytes, openedSize}
+use Rattle.c_opened.specs.KeptReader.{openedBytes, openedSize}
 use Rattle.reader.specs.declared.HpsReader.{HpsReader}
 use Rattle.key_listing.specs.MarkingKey.{listingLines, linesFrom}
 use Rattle.key_listing.specs.Filling.{FilledIs, linesFitting}

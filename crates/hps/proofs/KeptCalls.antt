@@ -12,8 +12,8 @@ use Rattle.reader_remaining.specs.RemainingAnswers.{remainingReply}
 use Rattle.reader_block.specs.declared.BlockReply.{BlockReply}
 use Rattle.reader_block.specs.declared.BlockCall.{BlockCall}
 use Rattle.reader_remaining.specs.declared.RemainingReply.{RemainingReply}
-use Rattle.kept_reader.specs.KeptReader.{partIn, readerIn}
-use Rattle.kept_reader.proofs.PartLaws.{block-same, remaining-same, same-count}
+use Rattle.c_opened.specs.KeptReader.{partIn, readerIn}
+use Rattle.c_opened.proofs.PartLaws.{block-same, remaining-same, same-count}
 use Rattle.hps.specs.Exported.{onRecord, blockNumber, BlockLent, blockLent, remainingNumber, addressesAfter}
 use Rattle.hps.proofs.ExportedLaws.{no-record, a-record, no-block, no-sum}
 use Rattle.layout.specs.Refusals.{blockLimit}

@@ -9,12 +9,12 @@ use Rattle.layout.specs.Choice.{pick}
 use Rattle.layout.specs.Puts.{putAt}
 use Rattle.writer.specs.Loading.{Answer, accepted, refused, pushArgs}
 use Rattle.writer.specs.Calls.{Outcome, cueOf, pushOf}
-use Rattle.kept_sides.specs.KeptSides.{sideIn, kindOf}
-use Rattle.kept_writer.specs.KeptWriter.{streamIn, writerIn}
-use Rattle.kept_loading.specs.KeptLoading.{callOf, onKept}
+use Rattle.c_record.specs.KeptSides.{sideIn, kindOf}
+use Rattle.c_record.specs.KeptWriter.{streamIn, writerIn}
+use Rattle.c_loading.specs.KeptLoading.{callOf, onKept}
 use Rattle.reader.specs.OpeningAndReading.{Opened, BlockAnswer, Remaining}
 use Rattle.reader.specs.declared.HpsReader.{HpsReader}
-use Rattle.kept_reader.specs.KeptReader.{openedSize, openedBytes}
+use Rattle.c_opened.specs.KeptReader.{openedSize, openedBytes}
 
 -- ---- The estimate
 

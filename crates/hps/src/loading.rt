@@ -1,23 +1,23 @@
 // The loading calls and the estimate. A call gives 0, a refusal's number, NO_RECORD, NO_KIND, NO_ROOM or NO_SIDE; only with 0 are the lent bytes and the numbers that it
 // gives set.
 use crate::NO_KIND;
-use estimate::EstimateReply;
-use estimate::estimate;
-use kept_loading::begin_kept;
-use kept_loading::cue_kept;
-use kept_loading::finish_kept;
-use kept_pushing::push_kept;
-use kept_pushing::without_side;
-use kept_sides::kind_of;
-use kept_sides::side_in;
-use kept_sides::sides_short;
+use c_loading::begin_kept;
+use c_loading::cue_kept;
+use c_loading::finish_kept;
+use c_push::push_kept;
+use c_push::without_side;
+use c_record::kind_of;
+use c_record::side_in;
+use c_record::sides_short;
 use writer::Cue;
+use writer_estimate::EstimateReply;
+use writer_estimate::estimate;
 ghost use mathlib.Core.Path.{_≡_};
 ghost use Rattle.writer.specs.Estimate.{estimateOf};
 ghost use Rattle.writer.specs.Calls.{beginOf, finishOf};
-ghost use Rattle.kept_sides.specs.KeptSides.{sidesShort};
-ghost use Rattle.kept_writer.specs.KeptWriter.{modeOf, writerIn};
-ghost use Rattle.kept_loading.specs.KeptLoading.{callOf, whereRoom, onKept, givenAfter, bytesBegun, bytesCued, bytesPushed, bytesFinished};
+ghost use Rattle.c_record.specs.KeptSides.{sidesShort};
+ghost use Rattle.c_record.specs.KeptWriter.{modeOf, writerIn};
+ghost use Rattle.c_loading.specs.KeptLoading.{callOf, whereRoom, onKept, givenAfter, bytesBegun, bytesCued, bytesPushed, bytesFinished};
 ghost use Rattle.hps.specs.Exported.{numberOf, cueOn, cueNumber, pushOn, pushNumber, lengthAfter};
 
 // Begin: keeps the writer's record, and gives the write's offset and length. The mode is 0 Disabled, 1 Enabled, 2 Auto.

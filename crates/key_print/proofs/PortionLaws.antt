@@ -17,7 +17,7 @@ use Rattle.key_listing.proofs.LineLaws.{filled-fits, filled-rest, filled-none}
 use Rattle.key_listing.specs.declared.Stage.{Stage}
 use Rattle.key_listing.specs.declared.listing.Line.{Line}
 use Rattle.key_print.specs.declared.Portion.{Portion}
-use Rattle.key_print.specs.Portions.{Held, bytesOf, stillListed, MoreIs, Common}
+use Rattle.key_print.specs.Portions.{Held, portionBytes, stillListed, MoreIs, Common}
 
 -- ---- Bytes in common
 
@@ -72,13 +72,13 @@ more-same h l = record { held = h; long = refl; same = refl; ended = λ z. absur
 abbrev past : Portion → ℕ → Portion
 past p k = record { stage = p .stage; at = p .at + k; end = p .end }
 
-bytes-long : {p : Portion} {out : List ℕ} → Held p out → length (bytesOf p out) ≡ p .end - p .at
+bytes-long : {p : Portion} {out : List ℕ} → Held p out → length (portionBytes p out) ≡ p .end - p .at
 bytes-long {p} {out} h =
     let o = h .order in
     let i = h .inside in
     simp (length-take, length-drop) (omega arith)
 
-pub held-next : {p : Portion} {out : List ℕ} (k : ℕ) → Held p out → k ≤ length (bytesOf p out) → Held (past p k) out
+pub held-next : {p : Portion} {out : List ℕ} (k : ℕ) → Held p out → k ≤ length (portionBytes p out) → Held (past p k) out
 held-next {p} k h l =
     let o = h .order in
     record { order = omega (arith, bytes-long h); inside = h .inside }
@@ -87,26 +87,26 @@ module _ (s : List ℕ) (r : HpsReader) (p : Portion) (out : List ℕ) (h : Held
   -- its bytes are still to be listed
   bytes-left : p .end - p .at ≤ length (stillListed s r p out)
   unfolding stillListed
-  bytes-left = omega (arith, bytes-long h, length-append (bytesOf p out) (listingFrom s r (p .stage)))
+  bytes-left = omega (arith, bytes-long h, length-append (portionBytes p out) (listingFrom s r (p .stage)))
 
-  first-left : p .at < p .end → getD (stillListed s r p out) 0 0 ≡ getD (bytesOf p out) 0 0
+  first-left : p .at < p .end → getD (stillListed s r p out) 0 0 ≡ getD (portionBytes p out) 0 0
   unfolding stillListed
-  first-left l = List·getD-append (bytesOf p out) (listingFrom s r (p .stage)) 0 0 (omega (arith, bytes-long h))
+  first-left l = List·getD-append (portionBytes p out) (listingFrom s r (p .stage)) 0 0 (omega (arith, bytes-long h))
 
   -- its first k bytes, and what is left after them
-  passed : (k : ℕ) → k ≤ length (bytesOf p out) → stillListed s r p out ≡ take k (bytesOf p out) ++ stillListed s r (past p k) out
+  passed : (k : ℕ) → k ≤ length (portionBytes p out) → stillListed s r p out ≡ take k (portionBytes p out) ++ stillListed s r (past p k) out
   unfolding stillListed
   passed k l =
       let x = bytes-long h in
       let o = h .order in
       let i = h .inside in
       let d : p .end - p .at ≡ k + (p .end - (p .at + k)) = omega arith in
-      let e : bytesOf p out ≡ take k (bytesOf p out) ++ take (p .end - (p .at + k)) (drop (p .at + k) out) =
+      let e : portionBytes p out ≡ take k (portionBytes p out) ++ take (p .end - (p .at + k)) (drop (p .at + k) out) =
       ap (λ (n : ℕ). take n (drop (p .at) out)) d
       ∙ take-add k (p .end - (p .at + k)) (drop (p .at) out)
       ∙ rw (drop-drop k (p .at) out, take-take k (p .end - p .at) (drop (p .at) out) (omega arith)) in
       ap (λ (l : List ℕ). l ++ listingFrom s r (p .stage)) e
-      ∙ append-assoc (take k (bytesOf p out)) (take (p .end - (p .at + k)) (drop (p .at + k) out)) (listingFrom s r (p .stage))
+      ∙ append-assoc (take k (portionBytes p out)) (take (p .end - (p .at + k)) (drop (p .at + k) out)) (listingFrom s r (p .stage))
 
 -- ---- Two listings, compared
 
@@ -137,7 +137,7 @@ module _ {a b whole whole2 : List ℕ} {r q : HpsReader} {p p2 left right : Port
       omega (arith, bytes-left b q right other (g .held))
 
   -- no byte is in common
-  pub apart-here : {k : ℕ} → Common (bytesOf left out) (bytesOf right other) k → k ≡ 0 → (left .at ≡ left .end → ⊥) → whole ≡ whole2 → ⊥
+  pub apart-here : {k : ℕ} → Common (portionBytes left out) (portionBytes right other) k → k ≡ 0 → (left .at ≡ left .end → ⊥) → whole ≡ whole2 → ⊥
   apart-here c k n z =
       let l = bytes-long (f .held) in
       let i = bytes-long (g .held) in
@@ -149,20 +149,20 @@ module _ {a b whole whole2 : List ℕ} {r q : HpsReader} {p p2 left right : Port
       (rw k at c) .apart (omega arith) (omega arith) (sym (first-left a r left out (f .held) (omega arith)) ∙ ap (λ (v : List ℕ). getD v 0 0) (now .on z)
       ∙ first-left b q right other (g .held) (omega arith)))
 
-  module _ (k : ℕ) (c : Common (bytesOf left out) (bytesOf right other) k) where
+  module _ (k : ℕ) (c : Common (portionBytes left out) (portionBytes right other) k) where
     -- the bytes in common are passed
     pub alike-next : Alike whole whole2 (stillListed a r (past left k) out) (stillListed b q (past right k) other)
     alike-next =
         let x = passed a r left out (f .held) k (c .here) in
         let y = rw (← c .same) at (passed b q right other (g .held) k (c .there)) in
         record {
-          back = λ e. now .back (x ∙ ap (λ (l : List ℕ). take k (bytesOf left out) ++ l) e ∙ sym y);
-          on = λ e. append-cancel-left (take k (bytesOf left out)) _ _ (sym x ∙ now .on e ∙ y);
+          back = λ e. now .back (x ∙ ap (λ (l : List ℕ). take k (portionBytes left out) ++ l) e ∙ sym y);
+          on = λ e. append-cancel-left (take k (portionBytes left out)) _ _ (sym x ∙ now .on e ∙ y);
         }
 
     pub less-left : (k ≡ 0 → ⊥) → length (stillListed a r (past left k) out) < length (stillListed a r p m)
     less-left n =
-        let v = length-take-le k (bytesOf left out) (c .here) in
+        let v = length-take-le k (portionBytes left out) (c .here) in
         let y = ap length (f .same) in
         omega (arith, simp length-append at (ap length (passed a r left out (f .held) k (c .here))))
 

@@ -13,12 +13,12 @@ pub record Held (p : Portion) (out : List ℕ) : Type 0 where
   pub inside : p .end ≤ length out
 
 -- Its bytes.
-abbrev pub bytesOf : Portion → (out : List ℕ) → List ℕ
-bytesOf p out = take (p .end - p .at) (drop (p .at) out)
+abbrev pub portionBytes : Portion → (out : List ℕ) → List ℕ
+portionBytes p out = take (p .end - p .at) (drop (p .at) out)
 
 -- Its bytes, and the listing from the stage after it on.
 unfoldable pub stillListed : (s : List ℕ) → HpsReader → Portion → (out : List ℕ) → List ℕ
-stillListed s r p out = bytesOf p out ++ listingFrom s r (p .stage)
+stillListed s r p out = portionBytes p out ++ listingFrom s r (p .stage)
 
 -- The same is still to be listed, and where the portion is empty, nothing.
 pub record MoreIs (s : List ℕ) (r : HpsReader) (p : Portion) (before : List ℕ) (q : Portion) (after : List ℕ) : Type 0 where

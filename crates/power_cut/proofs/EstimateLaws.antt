@@ -14,7 +14,7 @@ use Rattle.writer.specs.Loading.{accepted, lengthOf, points, dataSize}
 use Rattle.writer.specs.Estimate.{lengthsDue, estimateRefusal, estimated, estimateOf}
 use Rattle.power_cut.specs.LoadingBook.{Block, Book, endOf, endOfBlocks}
 use Rattle.power_cut.specs.PowerCut.{estimates}
-use Rattle.power_cut.proofs.Kept.{namedBy, BlockOk, Chained, Kept}
+use Rattle.power_cut.proofs.Invariant.{namedBy, BlockOk, Chained, Invariant}
 use Rattle.power_cut.proofs.ListLaws.{endFrom, next-end}
 
 abbrev lengths : List Block → List ℕ
@@ -30,7 +30,7 @@ unfolding firstDue lengthsDue
 none-due Chained.none = refl
 none-due (Chained.more {k = k} e f ok c) = rw (le-ltb (lengthOf (k .push)) 2 (ok .least)) (rw (ok .size) (none-due c))
 
-passes : (b : Book) → Kept b → estimateRefusal (b .channels) (lengths (b .blocks)) ≡ 0
+passes : (b : Book) → Invariant b → estimateRefusal (b .channels) (lengths (b .blocks)) ≡ 0
 unfolding estimateRefusal firstDue
 passes b h =
     let n = length-map (b .blocks) (λ k. lengthOf (k .push)) in
@@ -59,7 +59,7 @@ unfolding endFrom sum
 chain-most c Chained.none = omega arith
 chain-most w (Chained.more {k = k} e f ok c) = omega (arith, block-most k w ok, chain-most w c)
 
-pub estimate-bound : (b : Book) (ch : ℕ) → b .channels ≡ ch → Kept b
+pub estimate-bound : (b : Book) (ch : ℕ) → b .channels ≡ ch → Invariant b
     → (n : ℕ) × (estimates ch (lengths (b .blocks)) (points (b .cues)) ≡ accepted n) × (endOfBlocks (b .blocks) ≤ n)
 unfolding estimateOf estimated
 estimate-bound b ch e h =

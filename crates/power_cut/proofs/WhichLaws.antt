@@ -19,7 +19,7 @@ use Rattle.power_cut.specs.LoadingBook.{Book, begun, bookRun}
 use Rattle.power_cut.specs.FinishedFile.{fileHeader}
 use Rattle.power_cut.specs.PowerCut.{opens}
 use Rattle.power_cut.specs.WhichRefusal.{refusalBy, RefusalAt, CutTo, Refusals, WhichRefusal}
-use Rattle.power_cut.proofs.Kept.{Kept}
+use Rattle.power_cut.proofs.Invariant.{Invariant}
 use Rattle.power_cut.proofs.RecordOf.{bookWritten}
 use Rattle.power_cut.proofs.Follow.{begin-accepted}
 use Rattle.power_cut.proofs.ElementLaws.{all-each, bytes-append, bytes-zeros}
@@ -75,7 +75,7 @@ header-magic : (b : Book) → take 8 (fileHeader b) ≡ magic
 unfolding fileHeader headerFor fileHeaderBytes
 header-magic b = refl
 
-module _ (earlier : List ℕ) (b : Book) (cs : List Call) (typed : All Typed cs) (kept : Kept b) (going : b .finished ≡ false) (n : b .slotLength ≡ length earlier) where
+module _ (earlier : List ℕ) (b : Book) (cs : List Call) (typed : All Typed cs) (kept : Invariant b) (going : b .finished ≡ false) (n : b .slotLength ≡ length earlier) where
   abbrev d : Book
   d = bookRun b cs
 

@@ -13,7 +13,7 @@ use Rattle.reader.specs.OpeningAndReading.{BlockAnswer, refused, ended, gave}
 use Rattle.reader.specs.CuesReadBack.{CueAnswer}
 use Rattle.reader.specs.declared.LoopStart.{LoopStart}
 use Rattle.reader.specs.declared.HpsReader.{HpsReader}
-use Rattle.writer.specs.Loading.{Side, Push, Call, Answer, answerBy, byMode, loops, has, insert, cueRefusal, lengthOf, points, anyLoop, blockSize, Standing, pushRefusal, finishRefusal, noBlock, filled, second}
+use Rattle.writer.specs.Loading.{Side, Push, Call, Answer, answerBy, byMode, loops, has, insert, cueRefusal, lengthOf, points, anyLoop, blockSize, PushState, pushRefusal, finishRefusal, noBlock, filled, second}
 use Rattle.writer.specs.declared.Looping.{Looping}
 use Rattle.writer.specs.declared.Cue.{Cue}
 use Rattle.writer.specs.declared.ChannelBlock.{ChannelBlock}
@@ -104,14 +104,14 @@ withFinish b =
     record { slotLength = b .slotLength; channels = b .channels; mode = b .mode; cues = b .cues; blocks = b .blocks; finished = true }
 
 -- What push's order asks of the book.
-abbrev pub standing : Book → Standing
-standing b =
+abbrev pub stateOf : Book → PushState
+stateOf b =
     record { slotLength = b .slotLength; channels = b .channels; blocks = length (b .blocks); last = lastPushed (b .blocks); offset = endOfBlocks (b .blocks); left = firstLeft (b .blocks); right = firstRight (b .blocks) }
 
 -- "A call gets the first number due in its order by its arguments and what the book keeps"
 abbrev pub numberDue : Book → Call → ℕ
 numberDue b (Call.cue c) = cueRefusal (length (b .blocks)) (b .cues) c
-numberDue b (Call.push p lent) = pushRefusal (standing b) (takes b p) p (length lent)
+numberDue b (Call.push p lent) = pushRefusal (stateOf b) (takes b p) p (length lent)
 numberDue b (Call.finish lent) = finishRefusal (b .finished) (length (b .blocks)) (lastPushed (b .blocks)) (length lent)
 
 -- The book after an accepted call.

@@ -9,15 +9,15 @@ use Rattle.reader_block.specs.declared.BlockReply.{BlockReply}
 use Rattle.reader_block.specs.declared.BlockCall.{BlockCall}
 use Rattle.reader.specs.OpeningAndReading.{BlockAnswer}
 
-abbrev pub noBlock : BlockReply → (position : ℕ) → BlockCall
-noBlock q i =
+abbrev pub noBlockRead : BlockReply → (position : ℕ) → BlockCall
+noBlockRead q i =
     record { reply = q; rate = 0; format = DspFormat.Adpcm; coefficients = replicate 16 (pos 0); gain = 0; length = 0; context = zeroContext; start = 0; end = 0; position = i }
 
 -- "block read's 1 comes with the moved position"; 6 and the end leave it
 abbrev pub blockCall : (position : ℕ) → BlockAnswer → BlockCall
-blockCall i (BlockAnswer.refused n) = noBlock (BlockReply.Refused n) i
-blockCall i (BlockAnswer.refusedAt n j) = noBlock (BlockReply.Refused n) j
-blockCall i BlockAnswer.ended = noBlock BlockReply.End i
+blockCall i (BlockAnswer.refused n) = noBlockRead (BlockReply.Refused n) i
+blockCall i (BlockAnswer.refusedAt n j) = noBlockRead (BlockReply.Refused n) j
+blockCall i BlockAnswer.ended = noBlockRead BlockReply.End i
 blockCall i (BlockAnswer.gave rate f cs gain len c start bytes j) =
     record { reply = BlockReply.Block; rate = rate; format = f; coefficients = cs; gain = gain; length = len; context = c; start = start; end = start + length bytes; position = j }
 

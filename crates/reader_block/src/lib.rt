@@ -10,7 +10,7 @@ ghost use mathlib.Core.Path.{_≡_};
 ghost use lib.ListN.{getD};
 ghost use Rattle.layout.specs.Records.{noChannel};
 ghost use Rattle.reader.specs.OpeningAndReading.{Readable, blockRead};
-ghost use Rattle.reader_block.specs.BlockAnswers.{noBlock, blockCall, blockData, blockStart, bytesOn};
+ghost use Rattle.reader_block.specs.BlockAnswers.{noBlockRead, blockCall, blockData, blockStart, bytesOn};
 
 mod data_places; // data_places.rt: where a block's data lies
 
@@ -48,7 +48,7 @@ fn channel_of(channels: [Channel; 2], channel: usize) -> Channel
 }
 
 fn no_block(reply: BlockReply, position: usize) -> BlockCall
-    ensures { λ q. ⌜ q ≡ noBlock reply position ⌝ }
+    ensures { λ q. ⌜ q ≡ noBlockRead reply position ⌝ }
 {
     BlockCall {
         reply,

@@ -1,19 +1,16 @@
 // A stream loaded through begin, cue, push and finish, with calls among them that are refused, held to recorded answers and bytes.
-use block_writer::push::push;
-use carried::is_carried;
 use check::same;
-use cue_writer::cue;
-use header_writer::finish::finish;
 use layout::FrameContext;
 use layout::least;
 use layout_put::put_bytes;
 use layout_read::channels::read_coefficients;
-use stored::half;
-use stored::long;
-use stored::number;
-use stored::part;
-use stored::signed;
-use stored::size;
+use replay_input::half;
+use replay_input::long;
+use replay_input::number;
+use replay_input::part;
+use replay_input::signed;
+use replay_input::size;
+use replay_server::is_applied;
 use writer::Called;
 use writer::ChannelBlock;
 use writer::Cue;
@@ -21,6 +18,9 @@ use writer::CueKind;
 use writer::HpsWriter;
 use writer::Looping;
 use writer::begin;
+use writer_cue::cue;
+use writer_finish::finish;
+use writer_push::push;
 ghost use Prim.Native.Nat.{_<_};
 ghost use mathlib.Core.Path.{_≡_};
 ghost use lib.ListN.{length};
@@ -133,7 +133,7 @@ fn run_call(step: &[u8], w: HpsWriter, slot: &mut [u8], lent: &mut [u8]) -> Left
     let call = make(step, w, lent);
     let writer = call.writer;
     let reply = call.reply;
-    let good = is_carried(
+    let good = is_applied(
         slot,
         size(step, 8),
         reply,

@@ -3,12 +3,12 @@
 use crate::loading::loading_case;
 use io::read_full;
 use libc::STDIN_FILENO;
-use stored::input_room;
-use stored::number;
-use stored::part;
-use stored::size;
-use stored::told::tell_case;
-use stored::told::tell_counts;
+use replay_input::input_room;
+use replay_input::number;
+use replay_input::part;
+use replay_input::size;
+use replay_input::told::tell_case;
+use replay_input::told::tell_counts;
 
 mod loading; // loading.rt: begin, cues, pushes and finish over a slot's earlier content
 

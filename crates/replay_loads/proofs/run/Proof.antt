@@ -5,11 +5,11 @@ use Rattle.replay_loads.proofs.run.Tie as tie
 use Rattle.replay_loads.proofs.run.Reads as reads
 use Rattle.replay_loads.proofs.run.Lts as lts
 use Rattle.replay_loads.proofs.other_in.Reads as other-in-reads
-use Rattle.stored.proofs.number.Reads as number-reads
-use Rattle.stored.proofs.part.Reads as part-reads
-use Rattle.stored.proofs.size.Reads as size-reads
-use Rattle.stored.proofs.told.tell_case.Reads as tell-case-reads
-use Rattle.stored.proofs.told.tell_counts.Reads as tell-counts-reads
+use Rattle.replay_input.proofs.number.Reads as number-reads
+use Rattle.replay_input.proofs.part.Reads as part-reads
+use Rattle.replay_input.proofs.size.Reads as size-reads
+use Rattle.replay_input.proofs.told.tell_case.Reads as tell-case-reads
+use Rattle.replay_input.proofs.told.tell_counts.Reads as tell-counts-reads
 
 abbrev Inv-loop : tie.InvT-loop
 Inv-loop all at₀ cases₀ others₀ at cases others = (at ≤ 4294967304 * cases) × (cases ≤ 100000) × (others ≤ cases)

@@ -1,15 +1,15 @@
 use mathlib.Core.Path.{ap}
 use lib.ListN.{length}
 use lib.Dec.{ltb}
-use Rattle.kept_loading.specs.declared.KeptCall.{KeptCall}
+use Rattle.c_loading.specs.declared.KeptCall.{KeptCall}
 use Rattle.hps.proofs.ExportedLaws.{given, left, past}
 use borrow.Author.Needs.{needs}
 use Rattle.hps.proofs.loading.hps_begin.Statement.{statement}
 use Rattle.hps.proofs.loading.hps_begin.Tie as tie
 use Rattle.hps.proofs.loading.hps_begin.Reads as reads
 use Rattle.hps.proofs.loading.hps_begin.Lts as lts
-use Rattle.kept_loading.proofs.begin_kept.Reads as begin-kept-reads
-use Rattle.kept_sides.specs.KeptSides.{loaderSize}
+use Rattle.c_loading.proofs.begin_kept.Reads as begin-kept-reads
+use Rattle.c_record.specs.KeptSides.{loaderSize}
 
 begin-kept-requires : tie.Need-begin-kept-requires
 begin-kept-requires c κs = search needs

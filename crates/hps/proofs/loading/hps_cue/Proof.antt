@@ -2,16 +2,16 @@ use mathlib.Core.Path.{_≡_, refl, ap, _∙_}
 use borrow.Author.Tests.{lt-ltb, le-ltb}
 use Rattle.writer.specs.Calls.{Outcome, cueOf}
 use Rattle.writer.specs.declared.CueKind.{CueKind}
-use Rattle.kept_writer.specs.KeptWriter.{writerIn}
-use Rattle.kept_loading.specs.declared.KeptCall.{KeptCall}
-use Rattle.kept_loading.specs.KeptLoading.{onKept, givenAfter, bytesCued}
+use Rattle.c_record.specs.KeptWriter.{writerIn}
+use Rattle.c_loading.specs.declared.KeptCall.{KeptCall}
+use Rattle.c_loading.specs.KeptLoading.{onKept, givenAfter, bytesCued}
 use borrow.Author.Needs.{needs}
 use Rattle.hps.proofs.loading.hps_cue.Statement.{statement}
 use Rattle.hps.proofs.loading.hps_cue.Tie as tie
 use Rattle.hps.proofs.loading.hps_cue.Reads as reads
 use Rattle.hps.proofs.loading.hps_cue.Lts as lts
-use Rattle.kept_loading.proofs.cue_kept.Reads as cue-kept-reads
-use Rattle.kept_sides.proofs.kind_of.Reads as kind-of-reads
+use Rattle.c_loading.proofs.cue_kept.Reads as cue-kept-reads
+use Rattle.c_record.proofs.kind_of.Reads as kind-of-reads
 
 returns : tie.Need-returns
 returns c = rw (lt-ltb 2 (c .before .before .args .kind) (c .if1 .taken)) (refl, refl, refl)

@@ -4,7 +4,7 @@ use Rattle.hps.proofs.loading.hps_estimate.Statement.{statement}
 use Rattle.hps.proofs.loading.hps_estimate.Tie as tie
 use Rattle.hps.proofs.loading.hps_estimate.Reads as reads
 use Rattle.hps.proofs.loading.hps_estimate.Lts as lts
-use Rattle.estimate.proofs.estimate.Reads as estimate-reads
+use Rattle.writer_estimate.proofs.estimate.Reads as estimate-reads
 
 estimate-requires : tie.Need-estimate-requires
 estimate-requires c κs = search needs

@@ -1,14 +1,14 @@
 use mathlib.Core.Path.{ap}
 use lib.Dec.{eqb}
-use Rattle.kept_writer.specs.KeptWriter.{streamIn}
-use Rattle.kept_loading.specs.declared.KeptCall.{KeptCall}
+use Rattle.c_record.specs.KeptWriter.{streamIn}
+use Rattle.c_loading.specs.declared.KeptCall.{KeptCall}
 use Rattle.hps.proofs.ExportedLaws.{given, left, past}
 use borrow.Author.Needs.{needs}
 use Rattle.hps.proofs.loading.hps_finish.Statement.{statement}
 use Rattle.hps.proofs.loading.hps_finish.Tie as tie
 use Rattle.hps.proofs.loading.hps_finish.Reads as reads
 use Rattle.hps.proofs.loading.hps_finish.Lts as lts
-use Rattle.kept_loading.proofs.finish_kept.Reads as finish-kept-reads
+use Rattle.c_loading.proofs.finish_kept.Reads as finish-kept-reads
 
 finish-kept-requires : tie.Need-finish-kept-requires
 finish-kept-requires c κs = search needs

@@ -2,10 +2,10 @@ use mathlib.Core.Path.{_≡_, sym, ap, _∙_}
 use lib.Dec.{eqb}
 use Rattle.writer.specs.Calls.{Outcome, pushOf}
 use Rattle.writer.specs.Loading.{pushArgs}
-use Rattle.kept_sides.specs.KeptSides.{sidesShort}
-use Rattle.kept_writer.specs.KeptWriter.{streamIn, writerIn}
-use Rattle.kept_loading.specs.KeptLoading.{onKept, givenAfter, bytesPushed}
-use Rattle.kept_loading.specs.declared.KeptCall.{KeptCall}
+use Rattle.c_record.specs.KeptSides.{sidesShort}
+use Rattle.c_record.specs.KeptWriter.{streamIn, writerIn}
+use Rattle.c_loading.specs.KeptLoading.{onKept, givenAfter, bytesPushed}
+use Rattle.c_loading.specs.declared.KeptCall.{KeptCall}
 use Rattle.hps.specs.Exported.{pushOn, pushNumber}
 use Rattle.hps.proofs.ExportedLaws.{given, left, past, long-sides, short-side}
 use borrow.Author.Needs.{needs}
@@ -13,10 +13,10 @@ use Rattle.hps.proofs.loading.hps_push.Statement.{statement}
 use Rattle.hps.proofs.loading.hps_push.Tie as tie
 use Rattle.hps.proofs.loading.hps_push.Reads as reads
 use Rattle.hps.proofs.loading.hps_push.Lts as lts
-use Rattle.kept_sides.proofs.sides_short.Reads as sides-short-reads
-use Rattle.kept_pushing.proofs.without_side.Reads as without-side-reads
-use Rattle.kept_pushing.proofs.push_kept.Reads as push-kept-reads
-use Rattle.kept_sides.proofs.side_in.Reads as side-in-reads
+use Rattle.c_record.proofs.sides_short.Reads as sides-short-reads
+use Rattle.c_push.proofs.without_side.Reads as without-side-reads
+use Rattle.c_push.proofs.push_kept.Reads as push-kept-reads
+use Rattle.c_record.proofs.side_in.Reads as side-in-reads
 
 -- ---- What is known after push_kept
 

@@ -1,7 +1,7 @@
 use mir.Syntax.{w16}
 use mir.ValLaws.{toZ-ofZ}
 use Rattle.reader.specs.OpeningAndReading.{blockRead}
-use Rattle.kept_reader.specs.KeptReader.{readerIn}
+use Rattle.c_opened.specs.KeptReader.{readerIn}
 use denote.Ref.{now}
 use Rattle.hps.specs.Exported.{BlockLent}
 use Rattle.hps.proofs.KeptCalls.{without, with-it, whole-block, block-without, block-refused, block-ended, block-given}
@@ -12,7 +12,7 @@ use Rattle.hps.proofs.reading.hps_block.Reads as reads
 use Rattle.hps.proofs.reading.hps_block.Lts as lts
 use Rattle.reader_block.proofs.read_block.Reads as read-block-reads
 use Rattle.hps.proofs.reading.past.Reads as past-reads
-use Rattle.kept_reader.proofs.opened.reader_in.Reads as reader-in-reads
+use Rattle.c_opened.proofs.opened.reader_in.Reads as reader-in-reads
 
 past-requires : tie.Need-past-requires
 past-requires c κs = tt

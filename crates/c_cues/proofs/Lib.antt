@@ -1,0 +1,4 @@
+pub mod CueBytesLaws
+pub mod CallLaws
+pub mod CursorLaws
+pub mod FillLaws

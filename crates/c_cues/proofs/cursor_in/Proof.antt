@@ -1,0 +1,38 @@
+use Rattle.c_cues.proofs.CursorLaws.{cursor-read}
+use native.Mathlib.Omega.{arith}
+use Rattle.c_cues.proofs.cursor_in.Statement.{statement}
+use Rattle.c_cues.proofs.cursor_in.Tie as tie
+use Rattle.c_cues.proofs.cursor_in.Reads as reads
+use Rattle.c_cues.proofs.cursor_in.Lts as lts
+use Rattle.reader_cues.proofs.first_cursor.Reads as first-cursor-reads
+use Rattle.c_opened.proofs.fields.long.Reads as long-reads
+use Rattle.c_opened.proofs.fields.word.Reads as word-reads
+
+first-cursor-requires : tie.Need-first-cursor-requires
+first-cursor-requires c κs = tt
+
+long-requires : tie.Need-long-requires
+long-requires c κs = omega arith
+
+long-requires-2 : tie.Need-long-requires-2
+long-requires-2 c κs = omega arith
+
+long-requires-3 : tie.Need-long-requires-3
+long-requires-3 c κs = omega arith
+
+word-requires : tie.Need-word-requires
+word-requires c κs = tt
+
+returns : tie.Need-returns
+returns c = cursor-read _ _ (c .before .before .before .before .before .first-cursor .ensures) (c .before .before .before .before .long .ensures) (c .before .before .before .long2 .ensures) (c .before .before .long3 .ensures) (c .before .word .ensures)
+
+pub cursor-in-spec : {M : Type 1} → statement M
+cursor-in-spec =
+    tie.close
+    (tie.spec
+    first-cursor-requires
+    long-requires
+    long-requires-2
+    long-requires-3
+    word-requires
+    returns)

@@ -1,0 +1,2 @@
+pub mod CueBytes
+pub mod KeptCues

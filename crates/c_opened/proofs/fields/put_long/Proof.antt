@@ -1,0 +1,40 @@
+use borrow.Author.Needs.{needs}
+use Rattle.c_opened.proofs.LongLaws.{halves-put}
+use Rattle.c_opened.proofs.fields.put_long.Statement.{statement}
+use Rattle.c_opened.proofs.fields.put_long.Tie as tie
+use Rattle.c_opened.proofs.fields.put_long.Reads as reads
+use Rattle.c_opened.proofs.fields.put_long.Lts as lts
+use Rattle.layout_put.proofs.put_u32.Reads as put-u32-reads
+
+cast-put-u32 : tie.Need-cast-put-u32
+cast-put-u32 c = search needs
+
+put-u32-requires : tie.Need-put-u32-requires
+put-u32-requires c κs = search needs
+
+add-put-u32 : tie.Need-add-put-u32
+add-put-u32 c = search needs
+
+cast-put-u32-2 : tie.Need-cast-put-u32-2
+cast-put-u32-2 c = search needs
+
+put-u32-requires-2 : tie.Need-put-u32-requires-2
+put-u32-requires-2 c κs = search needs
+
+same-length : tie.Need-same-length
+same-length c = search needs
+
+returns : tie.Need-returns
+returns c = halves-put _ _ _ (c .before .before .before .before .before .before .put-u32 .ensures) (c .before .before .put-u322 .ensures)
+
+pub put-long-spec : {M : Type 1} → statement M
+put-long-spec =
+    tie.close
+    (tie.spec
+    cast-put-u32
+    put-u32-requires
+    add-put-u32
+    cast-put-u32-2
+    put-u32-requires-2
+    same-length
+    returns)

@@ -1,0 +1,51 @@
+use lib.ListN.{length-take}
+use native.Mathlib.Omega.{arith}
+use Rattle.c_opened.proofs.KeptPuts.{both-channels, one-channel}
+use borrow.Author.Needs.{needs}
+use Rattle.c_opened.proofs.put.put_file.Statement.{statement}
+use Rattle.c_opened.proofs.put.put_file.Tie as tie
+use Rattle.c_opened.proofs.put.put_file.Reads as reads
+use Rattle.c_opened.proofs.put.put_file.Lts as lts
+use Rattle.layout_put.proofs.put_bytes.Reads as put-bytes-reads
+use Rattle.layout_put.proofs.put_fill.Reads as put-fill-reads
+
+slice-aggregate-put-bytes : tie.Need-slice-aggregate-put-bytes
+slice-aggregate-put-bytes c = rw length-take (omega arith)
+
+put-bytes-requires : tie.Need-put-bytes-requires
+put-bytes-requires c κs = search needs
+
+same-length : tie.Need-same-length
+same-length c = search needs
+
+returns : tie.Need-returns
+returns c = search (both-channels, needs)
+
+slice-aggregate-put-bytes-2 : tie.Need-slice-aggregate-put-bytes-2
+slice-aggregate-put-bytes-2 c = rw length-take (omega arith)
+
+put-bytes-requires-2 : tie.Need-put-bytes-requires-2
+put-bytes-requires-2 c κs = search needs
+
+put-fill-requires : tie.Need-put-fill-requires
+put-fill-requires c κs = search needs
+
+same-length-2 : tie.Need-same-length-2
+same-length-2 c = search needs
+
+returns-2 : tie.Need-returns-2
+returns-2 c = search (one-channel, needs)
+
+pub put-file-spec : {M : Type 1} → statement M
+put-file-spec =
+    tie.close
+    (tie.spec
+    slice-aggregate-put-bytes
+    put-bytes-requires
+    same-length
+    returns
+    slice-aggregate-put-bytes-2
+    put-bytes-requires-2
+    put-fill-requires
+    same-length-2
+    returns-2)

@@ -1,0 +1,64 @@
+use Prim.Native.Nat.{_-_}
+use mathlib.Core.Path.{_∙_}
+use native.Mathlib.Omega.{arith}
+use mir.Facts.{toZ-ofZ}
+use Rattle.c_record.proofs.ReadingLaws.{Signed, signed-start, signed-again, signed-end}
+use borrow.Author.Needs.{needs}
+use Rattle.c_record.proofs.coefficients_in.Statement.{statement}
+use Rattle.c_record.proofs.coefficients_in.Tie as tie
+use Rattle.c_record.proofs.coefficients_in.Reads as reads
+use Rattle.c_record.proofs.coefficients_in.Lts as lts
+use Rattle.c_record.proofs.signed.Reads as signed-reads
+
+abbrev Inv-loop : tie.InvT-loop
+Inv-loop s at coefficients₀ i₀ coefficients i = Signed s at coefficients i
+
+abbrev μ-loop : tie.MeasureT-loop
+μ-loop s at coefficients₀ i₀ coefficients i = 16 - i
+
+loop-holds : tie.Need-loop-holds Inv-loop μ-loop
+loop-holds c = signed-start _ _
+
+mul-signed : tie.Need-mul-signed Inv-loop μ-loop
+mul-signed c = search needs
+
+add-signed : tie.Need-add-signed Inv-loop μ-loop
+add-signed c = search needs
+
+signed-requires : tie.Need-signed-requires Inv-loop μ-loop
+signed-requires c κs = search needs
+
+mul-coefficients : tie.Need-mul-coefficients Inv-loop μ-loop
+mul-coefficients c = search needs
+
+array-set-from-coefficients : tie.Need-array-set-from-coefficients Inv-loop μ-loop
+array-set-from-coefficients c = search needs
+
+add-i : tie.Need-add-i Inv-loop μ-loop
+add-i c = search needs
+
+loop-less : tie.Need-loop-less Inv-loop μ-loop
+loop-less c = search needs
+
+loop-again : tie.Need-loop-again Inv-loop μ-loop
+loop-again c = signed-again _ _ _ _ _ (c .before .before .loop .inv) (c .before .loop-test .taken) (toZ-ofZ (record { sfits = c .signed .ok }) ∙ c .signed .ensures)
+
+returns : tie.Need-returns Inv-loop μ-loop
+returns c = signed-end _ _ _ _ (c .before .loop .inv) (c .loop-test .left)
+
+pub coefficients-in-spec : {M : Type 1} → statement M
+coefficients-in-spec =
+    tie.close
+    (tie.spec
+    Inv-loop
+    μ-loop
+    loop-holds
+    mul-signed
+    add-signed
+    signed-requires
+    mul-coefficients
+    array-set-from-coefficients
+    add-i
+    loop-less
+    loop-again
+    returns)

@@ -1,0 +1,62 @@
+use Prim.Native.Nat.{_-_, _≤_}
+use native.Mathlib.Omega.{arith}
+use Rattle.c_record.proofs.ReadingLaws.{Cues, cues-start, cues-again, cues-end}
+use borrow.Author.Needs.{needs}
+use Rattle.c_record.proofs.cues_in.Statement.{statement}
+use Rattle.c_record.proofs.cues_in.Tie as tie
+use Rattle.c_record.proofs.cues_in.Reads as reads
+use Rattle.c_record.proofs.cues_in.Lts as lts
+use Rattle.c_record.proofs.cue_in.Reads as cue-in-reads
+
+abbrev Inv-loop : tie.InvT-loop
+Inv-loop s at n cues₀ i₀ cues i = Cues s at cues i × (i ≤ n)
+
+abbrev μ-loop : tie.MeasureT-loop
+μ-loop s at n cues₀ i₀ cues i = n - i
+
+loop-holds : tie.Need-loop-holds Inv-loop μ-loop
+loop-holds c = (cues-start _ _, omega arith)
+
+mul-cue-in : tie.Need-mul-cue-in Inv-loop μ-loop
+mul-cue-in c = search needs
+
+add-cue-in : tie.Need-add-cue-in Inv-loop μ-loop
+add-cue-in c = search needs
+
+cue-in-requires : tie.Need-cue-in-requires Inv-loop μ-loop
+cue-in-requires c κs = search needs
+
+mul-cues : tie.Need-mul-cues Inv-loop μ-loop
+mul-cues c = search needs
+
+array-set-from-cues : tie.Need-array-set-from-cues Inv-loop μ-loop
+array-set-from-cues c = search needs
+
+add-i : tie.Need-add-i Inv-loop μ-loop
+add-i c = search needs
+
+loop-less : tie.Need-loop-less Inv-loop μ-loop
+loop-less c = search needs
+
+loop-again : tie.Need-loop-again Inv-loop μ-loop
+loop-again c = (cues-again _ _ _ _ _ (c .before .before .loop .inv .0) (omega arith) (c .cue-in .ensures), omega arith)
+
+returns : tie.Need-returns Inv-loop μ-loop
+returns c = cues-end _ _ _ _ _ (c .before .loop .inv .0) (omega arith)
+
+pub cues-in-spec : {M : Type 1} → statement M
+cues-in-spec =
+    tie.close
+    (tie.spec
+    Inv-loop
+    μ-loop
+    loop-holds
+    mul-cue-in
+    add-cue-in
+    cue-in-requires
+    mul-cues
+    array-set-from-cues
+    add-i
+    loop-less
+    loop-again
+    returns)

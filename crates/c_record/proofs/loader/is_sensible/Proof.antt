@@ -1,0 +1,47 @@
+use Rattle.c_record.proofs.KeptLaws.{bad-places, bad-sums, bad-marks, sensible-rest}
+use borrow.Author.Needs.{needs}
+use Rattle.c_record.proofs.loader.is_sensible.Statement.{statement}
+use Rattle.c_record.proofs.loader.is_sensible.Tie as tie
+use Rattle.c_record.proofs.loader.is_sensible.Reads as reads
+use Rattle.c_record.proofs.loader.is_sensible.Lts as lts
+use Rattle.c_record.proofs.loader.loops_within.Reads as loops-within-reads
+use Rattle.c_record.proofs.loader.marks_good.Reads as marks-good-reads
+use Rattle.c_record.proofs.loader.places_good.Reads as places-good-reads
+use Rattle.c_record.proofs.loader.sums_good.Reads as sums-good-reads
+
+places-good-requires : tie.Need-places-good-requires
+places-good-requires c κs = search needs
+
+returns : tie.Need-returns
+returns c = search (bad-places, needs)
+
+sums-good-requires : tie.Need-sums-good-requires
+sums-good-requires c κs = search needs
+
+returns-2 : tie.Need-returns-2
+returns-2 c = search (bad-sums, needs)
+
+marks-good-requires : tie.Need-marks-good-requires
+marks-good-requires c κs = search needs
+
+returns-3 : tie.Need-returns-3
+returns-3 c = search (bad-marks, needs)
+
+loops-within-requires : tie.Need-loops-within-requires
+loops-within-requires c κs = search needs
+
+returns-4 : tie.Need-returns-4
+returns-4 c = search (sensible-rest, needs)
+
+pub is-sensible-spec : {M : Type 1} → statement M
+is-sensible-spec =
+    tie.close
+    (tie.spec
+    places-good-requires
+    returns
+    sums-good-requires
+    returns-2
+    marks-good-requires
+    returns-3
+    loops-within-requires
+    returns-4)

@@ -1,0 +1,30 @@
+use mathlib.Core.Path.{ap, _∙_}
+use Rattle.writer_assign_cues.proofs.PointLaws.{no-points}
+use borrow.Author.Needs.{needs}
+use Rattle.c_record.proofs.loader.put_taken_kept.Statement.{statement}
+use Rattle.c_record.proofs.loader.put_taken_kept.Tie as tie
+use Rattle.c_record.proofs.loader.put_taken_kept.Reads as reads
+use Rattle.c_record.proofs.loader.put_taken_kept.Lts as lts
+use Rattle.c_record.proofs.cues_in.Reads as cues-in-reads
+use Rattle.writer_assign_cues.proofs.put_taken.Reads as put-taken-reads
+
+returns : tie.Need-returns
+returns c = let s = c .before .before .before in no-points _ _ _ _ _ _ (s .pre .1 .0 .counted) (c .if1 .taken)
+
+cues-in-requires : tie.Need-cues-in-requires
+cues-in-requires c κs = search needs
+
+put-taken-requires : tie.Need-put-taken-requires
+put-taken-requires c κs =
+    let s = c .before .before .before .before .before in
+    ((s .pre .0 .1, s .pre .0 .2), (rw (c .before .cues-in .ensures) (s .pre .1 .0), s .pre .1 .1))
+
+same-length : tie.Need-same-length
+same-length c = search needs
+
+returns-2 : tie.Need-returns-2
+returns-2 c = c .before .before .put-taken .ensures ∙ rw (c .before .before .before .before .cues-in .ensures)
+
+pub put-taken-kept-spec : {M : Type 1} → statement M
+put-taken-kept-spec =
+    tie.close (tie.spec returns cues-in-requires put-taken-requires same-length returns-2)

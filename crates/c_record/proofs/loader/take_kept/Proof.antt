@@ -1,0 +1,24 @@
+use mathlib.Core.Path.{_∙_}
+use Rattle.writer_assign_cues.proofs.TakeLaws.{none-taken}
+use borrow.Author.Needs.{needs}
+use Rattle.c_record.proofs.loader.take_kept.Statement.{statement}
+use Rattle.c_record.proofs.loader.take_kept.Tie as tie
+use Rattle.c_record.proofs.loader.take_kept.Reads as reads
+use Rattle.c_record.proofs.loader.take_kept.Lts as lts
+use Rattle.c_record.proofs.cues_in.Reads as cues-in-reads
+use Rattle.writer_assign_cues.proofs.take.Reads as take-reads
+
+returns : tie.Need-returns
+returns c = none-taken _ _ _ _ _ (c .before .before .pre .0) (c .if1 .taken)
+
+cues-in-requires : tie.Need-cues-in-requires
+cues-in-requires c κs = search needs
+
+take-requires : tie.Need-take-requires
+take-requires c κs = search needs
+
+returns-2 : tie.Need-returns-2
+returns-2 c = c .take .ensures ∙ rw (c .before .cues-in .ensures)
+
+pub take-kept-spec : {M : Type 1} → statement M
+take-kept-spec = tie.close (tie.spec returns cues-in-requires take-requires returns-2)

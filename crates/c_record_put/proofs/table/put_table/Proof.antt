@@ -1,0 +1,29 @@
+use borrow.Author.Needs.{needs}
+use Rattle.c_record_put.proofs.TableLaws.{table-put, table-back}
+use Rattle.c_record_put.specs.KeptTable.{tablePut}
+use mathlib.Core.Path.{_≡_}
+use Rattle.c_record_put.proofs.table.put_table.Statement.{statement}
+use Rattle.c_record_put.proofs.table.put_table.Tie as tie
+use Rattle.c_record_put.proofs.table.put_table.Reads as reads
+use Rattle.c_record_put.proofs.table.put_table.Lts as lts
+use Rattle.c_record_put.proofs.table.put_cues.Reads as put-cues-reads
+use Rattle.c_opened.proofs.fields.put_long.Reads as put-long-reads
+
+put-long-requires : tie.Need-put-long-requires
+put-long-requires c κs = search needs
+
+put-cues-requires : tie.Need-put-cues-requires
+put-cues-requires c κs = search needs
+
+same-length : tie.Need-same-length
+same-length c = search needs
+
+returns : tie.Need-returns
+returns c =
+    let e = c .before .before in
+    let s = e .before .before .before .before .before .before .before in
+    let put : e .put-cues .last .0 ≡ tablePut (s .args .kept .now) (s .args .cues) (s .args .n) = search (table-put, needs) in
+    (put, rw put (table-back (s .args .kept .now) (s .args .cues) (s .args .n) (search needs) (s .pre .0) (s .pre .1) (e .put-cues .ensures .1)))
+
+pub put-table-spec : {M : Type 1} → statement M
+put-table-spec = tie.close (tie.spec put-long-requires put-cues-requires same-length returns)

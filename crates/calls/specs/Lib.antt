@@ -1,2 +1,0 @@
-pub mod Script
-pub mod Carried

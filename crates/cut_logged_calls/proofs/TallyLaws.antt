@@ -1,0 +1,250 @@
+-- Each call's writes find room.
+use Prim.Native.Nat.{ℕ, zero, suc, _+_, _≤_, min}
+use mathlib.Core.Path.{_≡_, refl, ap, sym, _∙_}
+use mathlib.Core.Bool.{true, false}
+use mathlib.Core.List.{List, [], _∷_, _++_, map}
+use native.Mathlib.Omega.{arith}
+use lib.ListN.{length, take, drop, replicate, length-append, length-take, length-map, length-replicate}
+use lib.Dec.{eqb}
+use borrow.Author.Tests.{ltb-false, leb-false, eqb-true}
+use Rattle.layout.specs.Lists.{sum}
+use Rattle.layout.proofs.Cases.{by-cases, apart}
+use Rattle.writer.specs.WritesAndCuttingRule.{Write, write, placeOf, handed, writesIn, mostWrites}
+use Rattle.writer.specs.Loading.{Push, refused, accepted, beginRefusal, beginWrite, pushRefusal, finishRefusal, blockSize, startWrite, restWrite, markWrite}
+use Rattle.writer.specs.Calls.{Handed, handedWrites, replyFor, placesIn, Outcome, outcome, writes, called, blank, emptyOf, beginOf, takenOf, stateIn, nextFor, pushBytes, afterPush, pushOf, headerOf, afterFinish, finishOf, Good}
+use Rattle.writer.specs.declared.Looping.{Looping}
+use Rattle.writer.specs.declared.HpsWriter.{HpsWriter}
+use Rattle.writer.specs.declared.Called.{Called}
+use Rattle.writer.proofs.DueLaws.{passed, passed-finish}
+use Rattle.writer.proofs.WriteLaws.{bytes-length, places-are}
+use Rattle.cut_write_log.specs.WriteLog.{sizes, loggedWrites, emptyLog, Listed, Room, Logs}
+use Rattle.cut_write_log.specs.declared.WriteLog.{WriteLog}
+use Rattle.cut_write_log.proofs.WriteLogLaws.{none-listed, logs-long}
+use Rattle.cut_logged_calls.specs.LoggedCalls.{lentOf, Tally, MadeBy, Begun}
+use Rattle.layout.specs.Refusals.{blockLimit, keyLimit}
+use Rattle.layout.specs.Records.{fileHeaderSize}
+use Rattle.writer.specs.Push.{advanced}
+
+-- The writes that are handed out lie in the lent buffer.
+sizes-are : (ws : List Write) → sizes (map placeOf ws) ≡ length (handed ws)
+unfolding sizes sum handed
+sizes-are [] = refl
+sizes-are (w ∷ ws) = omega (arith, sizes-are ws, length-append (w .bytes) (handed ws))
+
+-- No write more.
+none-room : {j : WriteLog} {logged lent : List ℕ} → Listed j logged → Room j logged lent []
+unfolding sizes sum
+none-room l = record { few = omega (arith, l .few); handed = omega arith; space = omega (arith, l .inside) }
+
+-- These writes, where there is room for so many.
+some-room : {j : WriteLog} {logged : List ℕ} (lent : List ℕ) (ws : List Write) → j .count + length ws ≤ mostWrites → j .total + length (handed ws) ≤ length logged → Room j logged (handed ws ++ drop (length (handed ws)) lent) (map placeOf ws)
+some-room lent ws few space =
+    let n = sizes-are ws in
+    record {
+      few = omega (arith, length-map ws placeOf);
+      handed = omega (arith, length-append (handed ws) (drop (length (handed ws)) lent));
+      space = omega arith;
+    }
+
+-- ---- Any call
+
+places-length : (h : Handed) → (length (placesIn (replyFor h)) ≡ length (handedWrites h)) × (sizes (placesIn (replyFor h)) ≡ length (handed (handedWrites h)))
+places-length h = let e = places-are h in (rw e (length-map (handedWrites h) placeOf), rw e (sizes-are (handedWrites h)))
+
+module _ (n : ℕ) (w : HpsWriter) (lent : List ℕ) (next : HpsWriter) (h : Handed) (j : WriteLog) (logged : List ℕ) where
+  abbrev ws : List Write
+  ws = handedWrites h
+
+  -- What an accepted call must leave room for.
+  abbrev Fits : Type 0
+  Fits = eqb n 0 ≡ true → (j .count + length ws ≤ mostWrites) × (j .total + length (handed ws) ≤ length logged)
+
+  room-for : Listed j logged → Fits → Room j logged (outcome n w lent next h .lent) (placesIn (outcome n w lent next h .reply))
+  room-for l f =
+      by-cases (eqb n 0) (λ q. rw (q, places-are h) (some-room lent ws (f q .0) (f q .1))) (λ q. rw q (none-room l))
+
+  -- What it must leave counted.
+  abbrev Counts : Type 0
+  Counts = eqb n 0 ≡ true
+      → (next .setup .slot ≤ keyLimit)
+      × (next .finished ≡ false → (j .count + length ws ≡ suc (next .stream .blocks)) × (j .total + length (handed ws) + 127 ≡ next .stream .offset))
+
+  tally-after : {q : WriteLog} {after : List ℕ} → Tally j w logged → Counts → Logs j logged (outcome n w lent next h .lent) (placesIn (outcome n w lent next h .reply)) q after
+      → Tally q (outcome n w lent next h .writer) after
+  unfolding sizes sum
+  tally-after {q} {after} t c g =
+      let long = logs-long g in
+      let room = t .room in
+      let many = places-length h in
+      by-cases (eqb n 0)
+      (λ e.
+      let k : q .count ≡ j .count + length (placesIn (replyFor h)) = rw e at (g .count) in
+      let b : q .total ≡ j .total + sizes (placesIn (replyFor h)) = rw e at (g .total) in
+      rw e (record {
+        listed = g .listed;
+        room = omega arith;
+        small = c e .0;
+        many = λ f. omega (arith, k, c e .1 f .0, many .0);
+        bytes = λ f. omega (arith, b, c e .1 f .1, many .1);
+      }))
+      (λ e.
+      let k : q .count ≡ j .count + 0 = rw e at (g .count) in
+      let b : q .total ≡ j .total + 0 = rw e at (g .total) in
+      rw e (record {
+        listed = g .listed;
+        room = omega arith;
+        small = t .small;
+        many = λ f. omega (arith, k, t .many f);
+        bytes = λ f. omega (arith, b, t .bytes f);
+      }))
+
+-- what a call is logged as, by its outcome
+pub call-made : (o : Outcome) {call : Called} {l : List ℕ} {j : WriteLog} {logged : List ℕ} → call ≡ called o → l ≡ o .lent → {q : WriteLog} {after : List ℕ} → Good (call .writer)
+    → (Logs j logged (o .lent) (placesIn (o .reply)) q after → Tally q (o .writer) after) → Logs j logged l (placesIn (call .reply)) q after
+    → MadeBy o j logged (record { writer = call .writer; reply = call .reply; log = q }) after
+unfolding writes
+call-made o {j = j} {logged = logged} e el {q} {after} good t h =
+    let k : Logs j logged (o .lent) (placesIn (o .reply)) q after = rw (e, el) at h in
+    record {
+      writer = ap (λ (c : Called). c .writer) e;
+      reply = ap (λ (c : Called). c .reply) e;
+      good = good;
+      tally = rw e (t k);
+      is = k .is;
+      put = k .put;
+    }
+
+-- ---- Push
+
+one-handed : (at : ℕ) (bs : List ℕ) → length (handed (write at bs ∷ [])) ≡ length bs
+unfolding handed
+one-handed at bs = omega (arith, length-append bs [])
+
+module _ (w : HpsWriter) (p : Push) (lent : List ℕ) {j : WriteLog} {logged : List ℕ} (g : Good w) (t : Tally j w logged) where
+  n : ℕ
+  n = pushRefusal (stateIn w) (takenOf w p) p (length lent)
+
+  block : Write
+  block = write (w .stream .offset) (pushBytes w p)
+
+  size : length (handed (block ∷ [])) ≡ blockSize (takenOf w p) p
+  unfolding block pushBytes
+  size = one-handed (w .stream .offset) (pushBytes w p) ∙ bytes-length (nextFor w p) (w .stream .base) (w .stream .id) (takenOf w p) p
+
+  -- No push is accepted after the last block, so none after a finish.
+  unfinished : eqb n 0 ≡ true → w .finished ≡ false
+  unfolding n
+  unfinished q =
+      let f = passed _ _ p _ (eqb-true _ 0 q) in
+      by-cases (w .finished) (λ d. apart (sym (g .done d) ∙ f .no26)) (λ d. d)
+
+  push-fits : Fits n w lent (afterPush w p) (Handed.one block) j logged
+  unfolding n block
+  push-fits q =
+      let f = passed _ _ p _ (eqb-true _ 0 q) in
+      let fit = ltb-false (w .setup .slot) (w .stream .offset + blockSize (takenOf w p) p) (f .no24) in
+      let many = leb-false blockLimit (w .stream .blocks) (f .no25) in
+      let u = unfinished q in
+      (omega (arith, t .many u), omega (arith, t .bytes u, t .small, t .room, size))
+
+  push-counts : Counts n w lent (afterPush w p) (Handed.one block) j logged
+  unfolding afterPush advanced block
+  push-counts q = (t .small, λ u. (omega (arith, t .many u), omega (arith, t .bytes u, size)))
+
+  module _ {call : Called} {l : List ℕ} (e : call ≡ called (pushOf w p lent)) (el : l ≡ pushOf w p lent .lent) where
+    pub push-room : Room j logged l (placesIn (call .reply))
+    unfolding pushOf n block
+    push-room = rw (e, el) (room-for n w lent (afterPush w p) (Handed.one block) j logged (t .listed) push-fits)
+
+    pub push-made : {q : WriteLog} {after : List ℕ} → Good (call .writer) → Logs j logged l (placesIn (call .reply)) q after
+        → MadeBy (pushOf w p lent) j logged (record { writer = call .writer; reply = call .reply; log = q }) after
+    unfolding pushOf n block
+    push-made good h = call-made (pushOf w p lent) e el good (tally-after n w lent (afterPush w p) (Handed.one block) j logged t push-counts) h
+
+-- ---- Finish
+
+module _ (w : HpsWriter) (lent : List ℕ) {j : WriteLog} {logged : List ℕ} (g : Good w) (t : Tally j w logged) where
+  number : ℕ
+  number = finishRefusal (w .finished) (w .stream .blocks) (w .stream .last) (length lent)
+
+  header : Handed
+  header = let h = headerOf w in Handed.three (w .stream .offset) (startWrite h) (restWrite h) (markWrite h)
+
+  header-size : length (handed (handedWrites header)) ≤ fileHeaderSize
+  unfolding handed header
+  header-size =
+      let h = headerOf w in
+      let a = take 15 h in
+      let b = take 112 (drop 16 h) in
+      let c = take 1 (drop 15 h) in
+      omega (arith, length-append a (b ++ (c ++ [])), length-append b (c ++ []), length-append c [], length-take 15 h, length-take 112 (drop 16 h), length-take 1 (drop 15 h))
+
+  finish-fits : Fits number w lent (afterFinish w) header j logged
+  unfolding number header
+  finish-fits q =
+      let u = passed-finish _ _ _ _ (eqb-true _ 0 q) .no26 in
+      (omega (arith, t .many u, g .many), omega (arith, t .bytes u, t .small, t .room, g .room, header-size))
+
+  finish-counts : Counts number w lent (afterFinish w) header j logged
+  unfolding afterFinish
+  finish-counts q = (t .small, λ u. apart u)
+
+  module _ {call : Called} {l : List ℕ} (e : call ≡ called (finishOf w lent)) (el : l ≡ finishOf w lent .lent) where
+    pub finish-room : Room j logged l (placesIn (call .reply))
+    unfolding finishOf number header
+    finish-room = rw (e, el) (room-for number w lent (afterFinish w) header j logged (t .listed) finish-fits)
+
+    pub finish-made : {q : WriteLog} {after : List ℕ} → Good (call .writer) → Logs j logged l (placesIn (call .reply)) q after
+        → MadeBy (finishOf w lent) j logged (record { writer = call .writer; reply = call .reply; log = q }) after
+    unfolding finishOf number header
+    finish-made good h = call-made (finishOf w lent) e el good (tally-after number w lent (afterFinish w) header j logged t finish-counts) h
+
+-- ---- Begin
+
+module _ (slot ch : ℕ) (mode : Looping) (lent : List ℕ) {logged : List ℕ} {j : WriteLog} {call : Called} {l : List ℕ} (none : j ≡ emptyLog) (e : call ≡ called (beginOf slot ch mode lent)) (el : l ≡ beginOf slot ch mode lent .lent) where
+  begin-room : 1 ≤ length logged → Room j logged l (placesIn (call .reply))
+  unfolding beginOf handed
+  begin-room room =
+      rw (none, e, el)
+      (room-for (beginRefusal slot ch (length lent)) blank lent (emptyOf slot ch mode) (Handed.one beginWrite) emptyLog logged (none-listed logged) (λ q. (omega arith, omega arith)))
+
+  pub begin-made : {q : WriteLog} {after : List ℕ} → Good (call .writer) → (Room j logged l (placesIn (call .reply)) → Logs j logged l (placesIn (call .reply)) q after)
+      → Begun slot (beginOf slot ch mode lent) logged (record { writer = call .writer; reply = call .reply; log = q }) after
+  unfolding beginOf writes loggedWrites writesIn sizes sum handed
+  begin-made {q} {after} good h =
+      let k : 1 ≤ length logged → Logs emptyLog logged (beginOf slot ch mode lent .lent) (placesIn (beginOf slot ch mode lent .reply)) q after = λ room. rw (none, e, el) at (h (begin-room room)) in
+      record {
+        writer = ap (λ (c : Called). c .writer) e;
+        reply = ap (λ (c : Called). c .reply) e;
+        good = good;
+        tally = λ room small a.
+            by-cases (eqb (beginRefusal slot ch (length lent)) 0)
+            (λ z.
+            let n = k (omega arith) in
+            let c : q .count ≡ 0 + 1 = rw z at (n .count) in
+            let b : q .total ≡ 0 + (1 + 0) = rw z at (n .total) in
+            rw (e, z) (record {
+              listed = n .listed;
+              room = omega (arith, logs-long n);
+              small = small;
+              many = λ u. omega arith;
+              bytes = λ u. omega arith;
+            }))
+            (λ z. let x : refused (beginRefusal slot ch (length lent)) ≡ accepted 0 = rw z at a in let y : _≡_ {A = ℕ} 0 1 = cc in absurd (omega arith));
+        is = λ room. k room .is;
+        put = λ room. k room .put;
+      }
+
+-- ---- The lent buffer
+
+take-zeros : (k m : ℕ) → k ≤ m → take {A = ℕ} k (replicate m 0) ≡ replicate k 0
+take-zeros zero m h = refl
+take-zeros (suc k) zero h = absurd (omega arith)
+take-zeros (suc k) (suc m) h = ap (λ (bs : List ℕ). 0 ∷ bs) (take-zeros k m (omega arith))
+
+module _ (size : ℕ) {r : ℕ} {z : List ℕ} (zeros : z ≡ replicate keyLimit 0) (least : r ≡ min size keyLimit) where
+  pub lent-is : take r z ≡ lentOf size
+  lent-is = rw zeros (take-zeros r keyLimit (omega arith) ∙ rw least)
+
+  pub lent-length : r ≡ length (take r z)
+  lent-length = rw lent-is (least ∙ sym (length-replicate (min size keyLimit) 0))

@@ -1,3 +1,0 @@
-pub mod SameLaws
-pub mod ThereLaws
-pub mod NumberLaws

@@ -1,4 +1,0 @@
-pub mod KeptReads
-pub mod LongLaws
-pub mod PartLaws
-pub mod ReadBackLaws

@@ -1,2 +1,0 @@
-pub mod ReadingLaws
-pub mod SameLaws

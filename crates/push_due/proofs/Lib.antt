@@ -1,2 +1,0 @@
-pub mod DecideLaws
-pub mod GroupLaws

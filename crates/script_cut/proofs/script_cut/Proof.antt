@@ -1,9 +1,0 @@
-use Rattle.script_cut.proofs.CutLaws.{cut-script}
-use Rattle.script_cut.proofs.script_cut.Statement.{statement}
-use Rattle.script_cut.proofs.script_cut.Tie as tie
-
-returns : tie.Need-returns
-returns c = cut-script
-
-pub script-cut-spec : {M : Type 1} → statement M
-script-cut-spec = tie.close (tie.spec returns)

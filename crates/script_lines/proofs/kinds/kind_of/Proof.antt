@@ -1,0 +1,49 @@
+use borrow.Author.Tests.{eq-eqb, ne-eqb}
+use Rattle.script_lines.specs.Lines.{lineKind}
+use borrow.Author.Needs.{needs}
+use Rattle.script_lines.proofs.kinds.kind_of.Statement.{statement}
+use Rattle.script_lines.proofs.kinds.kind_of.Tie as tie
+use Rattle.script_lines.proofs.kinds.kind_of.Reads as reads
+use Rattle.script_lines.proofs.kinds.kind_of.Lts as lts
+use Rattle.script_lines.proofs.kinds.named.Reads as named-reads
+use Rattle.replay_input.proofs.number.Reads as number-reads
+use Rattle.script_words.proofs.text.word.Reads as word-reads
+use Rattle.script_words.proofs.text.word_count.Reads as word-count-reads
+
+word-count-requires : tie.Need-word-count-requires
+word-count-requires c κs = search needs
+
+returns : tie.Need-returns
+unfolding lineKind
+returns c = rw (← c .before .word-count .ensures, eq-eqb _ _ (c .if1 .taken))
+
+word-requires : tie.Need-word-requires
+word-requires c κs = search needs
+
+returns-2 : tie.Need-returns-2
+unfolding lineKind
+returns-2 c = rw (← c .before .before .before .word-count .ensures, ne-eqb _ _ (c .before .before .if1 .left), ← c .before .word .ensures, ne-eqb _ _ (c .if2 .taken))
+
+number-requires : tie.Need-number-requires
+number-requires c κs = search needs
+
+named-requires : tie.Need-named-requires
+named-requires c κs = search needs
+
+returns-3 : tie.Need-returns-3
+unfolding lineKind
+returns-3 c =
+    rw (← c .before .before .before .before .before .word-count .ensures, ne-eqb _ _ (c .before .before .before .before .if1 .left), ← c .before .before .before .word .ensures, eq-eqb _ _ (c .before .before .if2 .left), ← c .before .number .ensures)
+    (c .named .ensures)
+
+pub kind-of-spec : {M : Type 1} → statement M
+kind-of-spec =
+    tie.close
+    (tie.spec
+    word-count-requires
+    returns
+    word-requires
+    returns-2
+    number-requires
+    named-requires
+    returns-3)

@@ -1,0 +1,22 @@
+use Rattle.script_lines.specs.Lines.{rangeLine}
+use Rattle.layout.proofs.Cases.{both}
+use borrow.Author.Needs.{needs}
+use Rattle.script_lines.proofs.lines.range_line.Statement.{statement}
+use Rattle.script_lines.proofs.lines.range_line.Tie as tie
+use Rattle.script_lines.proofs.lines.range_line.Reads as reads
+use Rattle.script_lines.proofs.lines.range_line.Lts as lts
+use Rattle.script_lines.proofs.lines.cue_named.Reads as cue-named-reads
+use Rattle.script_lines.proofs.lines.decimal_at.Reads as decimal-at-reads
+
+decimal-at-requires : tie.Need-decimal-at-requires
+decimal-at-requires c κs = search needs
+
+cue-named-requires : tie.Need-cue-named-requires
+cue-named-requires c κs = search needs
+
+returns : tie.Need-returns
+unfolding rangeLine
+returns c = rw (both (c .before .before .before .cue-named .result .good) (c .before .before .before .before .decimal-at .result .good), c .before .before .before .cue-named .ensures, c .before .before .before .before .decimal-at .ensures .0)
+
+pub range-line-spec : {M : Type 1} → statement M
+range-line-spec = tie.close (tie.spec decimal-at-requires cue-named-requires returns)

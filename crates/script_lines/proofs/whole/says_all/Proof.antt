@@ -1,0 +1,134 @@
+use Rattle.script_lines.specs.Whole.{saysAll}
+use borrow.Author.Needs.{needs}
+use Rattle.script_lines.proofs.whole.says_all.Statement.{statement}
+use Rattle.script_lines.proofs.whole.says_all.Tie as tie
+use Rattle.script_lines.proofs.whole.says_all.Reads as reads
+use Rattle.script_lines.proofs.whole.says_all.Lts as lts
+use Rattle.script_lines.proofs.channels.channel_line.Reads as channel-line-reads
+use Rattle.script_lines.proofs.lines.begin_line.Reads as begin-line-reads
+use Rattle.script_lines.proofs.lines.cue_line.Reads as cue-line-reads
+use Rattle.script_lines.proofs.lines.lent_line.Reads as lent-line-reads
+use Rattle.script_lines.proofs.lines.push_line.Reads as push-line-reads
+
+enum-told : tie.Need-enum-told
+enum-told c = search needs
+
+enum-told-2 : tie.Need-enum-told-2
+enum-told-2 c = search needs
+
+begin-line-requires : tie.Need-begin-line-requires
+begin-line-requires c κs = search needs
+
+enum-told-3 : tie.Need-enum-told-3
+enum-told-3 c = search needs
+
+cue-line-requires : tie.Need-cue-line-requires
+cue-line-requires c κs = search needs
+
+enum-told-4 : tie.Need-enum-told-4
+enum-told-4 c = search needs
+
+cue-line-requires-2 : tie.Need-cue-line-requires-2
+cue-line-requires-2 c κs = search needs
+
+enum-told-5 : tie.Need-enum-told-5
+enum-told-5 c = search needs
+
+cue-line-requires-3 : tie.Need-cue-line-requires-3
+cue-line-requires-3 c κs = search needs
+
+enum-told-6 : tie.Need-enum-told-6
+enum-told-6 c = search needs
+
+push-line-requires : tie.Need-push-line-requires
+push-line-requires c κs = search needs
+
+enum-told-7 : tie.Need-enum-told-7
+enum-told-7 c = search needs
+
+channel-line-requires : tie.Need-channel-line-requires
+channel-line-requires c κs = search needs
+
+enum-told-8 : tie.Need-enum-told-8
+enum-told-8 c = search needs
+
+enum-told-9 : tie.Need-enum-told-9
+enum-told-9 c = search needs
+
+lent-line-requires : tie.Need-lent-line-requires
+lent-line-requires c κs = search needs
+
+enum-told-10 : tie.Need-enum-told-10
+enum-told-10 c = search needs
+
+returns : tie.Need-returns
+unfolding saysAll
+returns c = rw (c .enum-told .given .1)
+
+returns-2 : tie.Need-returns-2
+unfolding saysAll
+returns-2 c = rw (c .before .enum-told2 .given .1, c .begin-line .ensures)
+
+returns-3 : tie.Need-returns-3
+unfolding saysAll
+returns-3 c = rw (c .before .enum-told3 .given .1, c .cue-line .ensures)
+
+returns-4 : tie.Need-returns-4
+unfolding saysAll
+returns-4 c = rw (c .before .enum-told4 .given .1, c .cue-line2 .ensures)
+
+returns-5 : tie.Need-returns-5
+unfolding saysAll
+returns-5 c = rw (c .before .enum-told5 .given .1, c .cue-line3 .ensures)
+
+returns-6 : tie.Need-returns-6
+unfolding saysAll
+returns-6 c = rw (c .before .enum-told6 .given .1, c .push-line .ensures)
+
+returns-7 : tie.Need-returns-7
+unfolding saysAll
+returns-7 c = rw (c .before .enum-told7 .given .1, c .channel-line .ensures)
+
+returns-8 : tie.Need-returns-8
+unfolding saysAll
+returns-8 c = rw (c .enum-told8 .given .1)
+
+returns-9 : tie.Need-returns-9
+unfolding saysAll
+returns-9 c = rw (c .before .enum-told9 .given .1, c .lent-line .ensures)
+
+returns-10 : tie.Need-returns-10
+unfolding saysAll
+returns-10 c = rw (c .enum-told10 .given .1)
+
+pub says-all-spec : {M : Type 1} → statement M
+says-all-spec =
+    tie.close
+    (tie.spec
+    enum-told
+    enum-told-2
+    begin-line-requires
+    enum-told-3
+    cue-line-requires
+    enum-told-4
+    cue-line-requires-2
+    enum-told-5
+    cue-line-requires-3
+    enum-told-6
+    push-line-requires
+    enum-told-7
+    channel-line-requires
+    enum-told-8
+    enum-told-9
+    lent-line-requires
+    enum-told-10
+    returns
+    returns-2
+    returns-3
+    returns-4
+    returns-5
+    returns-6
+    returns-7
+    returns-8
+    returns-9
+    returns-10)

@@ -1,0 +1,81 @@
+use borrow.Author.Needs.{needs}
+use Prim.Native.Nat.{_-_}
+use Rattle.script_words.proofs.DataLaws.{Pairs, odd, pairs-none, first-bad, second-bad, pairs-more, pairs-all}
+use Rattle.script_words.proofs.hex.two_by_two.Statement.{statement}
+use Rattle.script_words.proofs.hex.two_by_two.Tie as tie
+use Rattle.script_words.proofs.hex.two_by_two.Reads as reads
+use Rattle.script_words.proofs.hex.two_by_two.Lts as lts
+use Rattle.script_words.proofs.hex.is_digit.Reads as is-digit-reads
+
+abbrev Inv-loop : tie.InvT-loop
+Inv-loop word n j₀ j = Pairs word n j
+
+abbrev μ-loop : tie.MeasureT-loop
+μ-loop word n j₀ j = n - j
+
+returns : tie.Need-returns Inv-loop μ-loop
+returns c = odd _ (search needs)
+
+loop-holds : tie.Need-loop-holds Inv-loop μ-loop
+loop-holds c = pairs-none _ (c .if1 .left)
+
+mul-is-digit : tie.Need-mul-is-digit Inv-loop μ-loop
+mul-is-digit c = search needs
+
+shared-slice-read-is-digit : tie.Need-shared-slice-read-is-digit Inv-loop μ-loop
+shared-slice-read-is-digit c = search needs
+
+is-digit-requires : tie.Need-is-digit-requires Inv-loop μ-loop
+is-digit-requires c κs = search needs
+
+returns-2 : tie.Need-returns-2 Inv-loop μ-loop
+returns-2 c = first-bad (c .before .before .before .before .loop .inv) (search needs) (c .before .is-digit .ensures) (c .if2 .taken)
+
+mul-is-digit-2 : tie.Need-mul-is-digit-2 Inv-loop μ-loop
+mul-is-digit-2 c = search needs
+
+add-is-digit : tie.Need-add-is-digit Inv-loop μ-loop
+add-is-digit c = search needs
+
+shared-slice-read-is-digit-2 : tie.Need-shared-slice-read-is-digit-2 Inv-loop μ-loop
+shared-slice-read-is-digit-2 c = search needs
+
+is-digit-requires-2 : tie.Need-is-digit-requires-2 Inv-loop μ-loop
+is-digit-requires-2 c κs = search needs
+
+returns-3 : tie.Need-returns-3 Inv-loop μ-loop
+returns-3 c = second-bad (c .before .before .before .before .before .before .before .loop .inv) (search needs) (c .before .before .before .before .is-digit .ensures) (c .before .before .before .if2 .left) (c .before .is-digit2 .ensures) (c .if3 .taken)
+
+add-j : tie.Need-add-j Inv-loop μ-loop
+add-j c = search needs
+
+loop-less : tie.Need-loop-less Inv-loop μ-loop
+loop-less c = search needs
+
+loop-again : tie.Need-loop-again Inv-loop μ-loop
+loop-again c = pairs-more (c .before .before .before .before .before .before .before .loop .inv) (search needs) (c .before .before .before .before .is-digit .ensures) (c .before .before .before .if2 .left) (c .before .is-digit2 .ensures) (c .if3 .left)
+
+returns-4 : tie.Need-returns-4 Inv-loop μ-loop
+returns-4 c = pairs-all (c .before .loop .inv) (search needs)
+
+pub two-by-two-spec : {M : Type 1} → statement M
+two-by-two-spec =
+    tie.close
+    (tie.spec
+    Inv-loop
+    μ-loop
+    returns
+    loop-holds
+    mul-is-digit
+    shared-slice-read-is-digit
+    is-digit-requires
+    returns-2
+    mul-is-digit-2
+    add-is-digit
+    shared-slice-read-is-digit-2
+    is-digit-requires-2
+    returns-3
+    add-j
+    loop-less
+    loop-again
+    returns-4)

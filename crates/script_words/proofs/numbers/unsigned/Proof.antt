@@ -1,0 +1,99 @@
+use borrow.Author.Needs.{needs}
+use Prim.Native.Nat.{_-_}
+use native.Mathlib.Omega.{arith}
+use lib.ListN.{length}
+use Rattle.script_words.proofs.NumberLaws.{Reading, reading-none, no-word, low, high, over, more, all}
+use Rattle.script_words.proofs.numbers.unsigned.Statement.{statement}
+use Rattle.script_words.proofs.numbers.unsigned.Tie as tie
+use Rattle.script_words.proofs.numbers.unsigned.Reads as reads
+use Rattle.script_words.proofs.numbers.unsigned.Lts as lts
+use Rattle.script_words.proofs.numbers.bad.Reads as bad-reads
+
+abbrev Inv-loop : tie.InvT-loop
+Inv-loop word max value₀ i₀ value i = Reading max word value i
+
+abbrev μ-loop : tie.MeasureT-loop
+μ-loop word max value₀ i₀ value i = length word - i
+
+bad-requires : tie.Need-bad-requires Inv-loop μ-loop
+bad-requires c κs = search needs
+
+returns : tie.Need-returns Inv-loop μ-loop
+returns c = no-word _ (c .bad .ensures) (search needs)
+
+loop-holds : tie.Need-loop-holds Inv-loop μ-loop
+loop-holds c = reading-none _ _ (c .if1 .left)
+
+shared-slice-read-byte : tie.Need-shared-slice-read-byte Inv-loop μ-loop
+shared-slice-read-byte c = search needs
+
+bad-requires-2 : tie.Need-bad-requires-2 Inv-loop μ-loop
+bad-requires-2 c κs = search needs
+
+returns-2 : tie.Need-returns-2 Inv-loop μ-loop
+returns-2 c = low (c .before .before .before .before .loop .inv) (search needs) (c .bad2 .ensures) (search needs)
+
+bad-requires-3 : tie.Need-bad-requires-3 Inv-loop μ-loop
+bad-requires-3 c κs = search needs
+
+returns-3 : tie.Need-returns-3 Inv-loop μ-loop
+returns-3 c = high (c .before .before .before .before .before .loop .inv) (search needs) (c .bad3 .ensures) (search needs) (search needs)
+
+cast-digit : tie.Need-cast-digit Inv-loop μ-loop
+cast-digit c = omega arith
+
+bad-requires-4 : tie.Need-bad-requires-4 Inv-loop μ-loop
+bad-requires-4 c κs = search needs
+
+returns-4 : tie.Need-returns-4 Inv-loop μ-loop
+returns-4 c = over (c .before .before .before .before .before .before .loop .inv) (search needs) (c .bad4 .ensures) (search needs) (search needs) (omega arith)
+
+bad-requires-5 : tie.Need-bad-requires-5 Inv-loop μ-loop
+bad-requires-5 c κs = search needs
+
+returns-5 : tie.Need-returns-5 Inv-loop μ-loop
+returns-5 c = over (c .before .before .before .before .before .before .before .loop .inv) (search needs) (c .bad5 .ensures) (search needs) (search needs) (omega arith)
+
+mul-value : tie.Need-mul-value Inv-loop μ-loop
+mul-value c = omega arith
+
+add-value : tie.Need-add-value Inv-loop μ-loop
+add-value c = omega arith
+
+add-i : tie.Need-add-i Inv-loop μ-loop
+add-i c = search needs
+
+loop-less : tie.Need-loop-less Inv-loop μ-loop
+loop-less c = search needs
+
+loop-again : tie.Need-loop-again Inv-loop μ-loop
+loop-again c = more (c .before .before .before .before .before .before .loop .inv) (search needs) (search needs) (search needs) (omega arith)
+
+returns-6 : tie.Need-returns-6 Inv-loop μ-loop
+returns-6 c = all (c .before .loop .inv) (search needs)
+
+pub unsigned-spec : {M : Type 1} → statement M
+unsigned-spec =
+    tie.close
+    (tie.spec
+    Inv-loop
+    μ-loop
+    bad-requires
+    returns
+    loop-holds
+    shared-slice-read-byte
+    bad-requires-2
+    returns-2
+    bad-requires-3
+    returns-3
+    cast-digit
+    bad-requires-4
+    returns-4
+    bad-requires-5
+    returns-5
+    mul-value
+    add-value
+    add-i
+    loop-less
+    loop-again
+    returns-6)

@@ -1,0 +1,54 @@
+use Prim.Native.Nat.{_-_}
+use native.Mathlib.Omega.{arith}
+use borrow.Author.Needs.{needs}
+use Rattle.writer_assign_cues.proofs.TakeLaws.{Below, below-start, below-again, below-stop, below-end}
+use Rattle.writer_assign_cues.proofs.below.Statement.{statement}
+use Rattle.writer_assign_cues.proofs.below.Tie as tie
+use Rattle.writer_assign_cues.proofs.below.Reads as reads
+use Rattle.writer_assign_cues.proofs.below.Lts as lts
+
+abbrev Inv-loop : tie.InvT-loop
+Inv-loop from count limit cues k₀ k = Below cues from count limit k
+
+abbrev μ-loop : tie.MeasureT-loop
+μ-loop from count limit cues k₀ k = count - k
+
+loop-holds : tie.Need-loop-holds Inv-loop μ-loop
+loop-holds c = search (below-start, needs)
+
+mul-cue : tie.Need-mul-cue Inv-loop μ-loop
+mul-cue c = omega arith
+
+array-copy-out-cue : tie.Need-array-copy-out-cue Inv-loop μ-loop
+array-copy-out-cue c = omega arith
+
+returns : tie.Need-returns Inv-loop μ-loop
+returns c = (search (below-stop, needs), omega arith, omega arith)
+
+add-k : tie.Need-add-k Inv-loop μ-loop
+add-k c = omega arith
+
+loop-less : tie.Need-loop-less Inv-loop μ-loop
+loop-less c = omega arith
+
+loop-again : tie.Need-loop-again Inv-loop μ-loop
+loop-again c =
+    below-again _ _ _ _ _ (search needs) (omega arith) (c .before .before .before .before .loop .inv) _ (c .before .before .before .loop-test .taken) (c .if1 .left)
+
+returns-2 : tie.Need-returns-2 Inv-loop μ-loop
+returns-2 c = (search (below-end, needs), omega arith, omega arith)
+
+pub below-spec : {M : Type 1} → statement M
+below-spec =
+    tie.close
+    (tie.spec
+    Inv-loop
+    μ-loop
+    loop-holds
+    mul-cue
+    array-copy-out-cue
+    returns
+    add-k
+    loop-less
+    loop-again
+    returns-2)

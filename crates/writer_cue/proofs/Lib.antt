@@ -1,0 +1,2 @@
+pub mod CueTableLaws
+pub mod CueCallLaws

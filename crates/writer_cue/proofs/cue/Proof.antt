@@ -1,0 +1,75 @@
+use native.Mathlib.Omega.{arith}
+use Rattle.writer_cue.proofs.CueCallLaws.{refused-cue, equal-cue, room-left, new-cue, place-inside}
+use borrow.Author.Needs.{needs}
+use Rattle.writer_cue.proofs.cue.Statement.{statement}
+use Rattle.writer_cue.proofs.cue.Tie as tie
+
+is-bad-requires : tie.Need-is-bad-requires
+is-bad-requires c κs = search needs
+
+holds-requires : tie.Need-holds-requires
+holds-requires c κs = search needs
+
+cue-due-requires : tie.Need-cue-due-requires
+cue-due-requires c κs = search needs
+
+refused-requires : tie.Need-refused-requires
+refused-requires c κs = search needs
+
+returns : tie.Need-returns
+returns c =
+    let d = c .before .before in
+    let b = d .before .before .before in
+    let s = b .before in
+    refused-cue (s .args .w) (s .args .c) (s .pre) (b .is-bad .ensures) (d .before .holds .ensures) (d .cue-due .ensures) (c .refused .ensures) (c .before .if1 .taken)
+
+accepted-requires : tie.Need-accepted-requires
+accepted-requires c κs = search needs
+
+returns-2 : tie.Need-returns-2
+returns-2 c =
+    let d = c .before .before .before in
+    let b = d .before .before .before in
+    let s = b .before in
+    equal-cue (s .args .w) (s .args .c) (s .pre) (b .is-bad .ensures) (d .before .holds .ensures) (d .cue-due .ensures) (c .before .before .if1 .left) (c .accepted .ensures) (c .before .if2 .taken)
+
+place-of-requires : tie.Need-place-of-requires
+place-of-requires c κs = search needs
+
+put-in-requires : tie.Need-put-in-requires
+put-in-requires c κs =
+    let d = c .before .before .before in
+    let b = d .before .before .before in
+    (search (place-inside, needs), room-left (b .before .args .w .stream .blocks) (b .is-bad .result) _ _ _ (d .cue-due .ensures) (c .before .before .if1 .left) (c .before .if2 .left))
+
+add-count : tie.Need-add-count
+add-count c = omega arith
+
+accepted-requires-2 : tie.Need-accepted-requires-2
+accepted-requires-2 c κs = search needs
+
+returns-3 : tie.Need-returns-3
+returns-3 c =
+    let p = c .before .before .before .before in
+    let d = p .before .before .before in
+    let b = d .before .before .before in
+    let s = b .before in
+    new-cue (s .args .w) (s .args .c) (s .pre) (b .is-bad .ensures) (d .before .holds .ensures) (d .cue-due .ensures) (p .before .before .if1 .left) (c .accepted2 .ensures) (p .before .if2 .left)
+    (p .place-of .ensures) (c .before .before .before .put-in .ensures)
+
+pub cue-spec : {M : Type 1} → statement M
+cue-spec =
+    tie.close
+    (tie.spec
+    is-bad-requires
+    holds-requires
+    cue-due-requires
+    refused-requires
+    returns
+    accepted-requires
+    returns-2
+    place-of-requires
+    put-in-requires
+    add-count
+    accepted-requires-2
+    returns-3)

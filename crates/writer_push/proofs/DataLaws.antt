@@ -1,0 +1,77 @@
+-- The data of a block, and its parts put one after the other.
+use Prim.Native.Nat.{ℕ, _+_, _*_, _<_, _≤_}
+use mathlib.Core.Path.{_≡_, ap, sym, _∙_}
+use mathlib.Core.List.{List, _++_, append-assoc, append-nil}
+use native.Mathlib.Omega.{arith}
+use borrow.Author.Tests.{eq-eqb, ne-eqb}
+use lib.ListN.{length}
+use Rattle.layout.specs.Lists.{concat}
+use Rattle.layout.specs.Records.{P, padded, sizeOf, blockHeader, blockBytes, dataAfter}
+use Rattle.layout.specs.Puts.{putAt}
+use Rattle.layout.specs.Sizes.{saturated}
+use Rattle.layout.specs.declared.BlockHeader.{BlockHeader}
+use Rattle.layout.proofs.Lengths.{padded-length, data-length}
+use Rattle.layout.proofs.SizeLaws.{aligned}
+use Rattle.layout.proofs.PutLaws.{put-then}
+use Rattle.layout_put_block.specs.HeaderPut.{headerPut}
+use Rattle.layout_put_block.proofs.WrittenLaws.{put-length-32, header-put-is}
+use Rattle.writer.specs.Loading.{dataIn, secondContext, points, pointsOf, dataSize}
+use Rattle.writer.specs.declared.ChannelBlock.{ChannelBlock}
+use Rattle.writer.specs.declared.Cue.{Cue}
+use Rattle.writer.proofs.CueLaws.{points-length}
+use Rattle.writer.proofs.WriteLaws.{data-size}
+use Rattle.writer_assign_cues.specs.Taking.{pointBytes, filledBytes}
+use Rattle.writer_assign_cues.proofs.PointLaws.{taken-length}
+use Rattle.writer_push_plan.specs.PushPlan.{headerIn}
+use Rattle.layout.specs.Refusals.{cueLimit}
+
+-- ---- The data
+
+module _ (l x z : List ℕ) (at ch : ℕ) where
+  pub mono-put : (b : List ℕ) → (ch ≡ 2 → ⊥) → b ≡ putAt l at (padded x) → b ≡ putAt l at (concat padded (dataIn ch x z))
+  unfolding concat
+  mono-put b h e = rw (ne-eqb ch 2 h, append-nil) e
+
+  module _ (h : ch ≡ 2) (long : length x < 9223372036854775808) (room : at + dataSize ch (length x) (length z) ≤ length l)
+      (y : ℕ) (ey : y ≡ saturated (P (length x))) where
+    both : dataSize ch (length x) (length z) ≡ P (length x) + P (length z)
+    unfolding dataSize
+    both = rw (eq-eqb ch 2 h)
+
+    exact : y ≡ P (length x)
+    exact = ey ∙ aligned (length x) (omega arith)
+
+    pub second-place : at + y ≤ length l
+    second-place = omega (arith, both, exact)
+
+    pub stereo-put : (b b′ : List ℕ) → b ≡ putAt l at (padded x) → b′ ≡ putAt b (at + y) (padded z) → b′ ≡ putAt l at (concat padded (dataIn ch x z))
+    unfolding concat
+    stereo-put b b′ e f =
+        rw (eq-eqb ch 2 h, append-nil)
+        (put-then (record { size = padded-length x; is = e }) (padded z) (padded-length z) f (ap (λ (m : ℕ). at + m) exact) (omega (arith, both)) .is)
+
+-- ---- The whole block
+
+module _ (base id k ch : ℕ) (cs : List Cue) (l r : ChannelBlock) (ld rd o : List ℕ) (next : ℕ)
+    (counted : k ≡ points cs) (few : k ≤ cueLimit) (room : dataAfter k + dataSize ch (length ld) (length rd) ≤ length o) where
+  abbrev head : BlockHeader
+  head = headerIn k ch l r (length ld) (length rd) next
+
+  parts : headerPut head ++ filledBytes base id cs ++ concat padded (dataIn ch ld rd)
+      ≡ blockBytes next (l .length) (l .context) (secondContext ch r) (pointsOf base id cs) (dataIn ch ld rd)
+  unfolding headerIn blockBytes blockHeader filledBytes pointBytes
+  parts =
+      let a = header-put-is head (omega arith) in
+      let b : dataSize ch (length ld) (length rd) ≡ sizeOf (dataIn ch ld rd) = sym (data-size ch ld rd) in
+      let c : k ≡ length (pointsOf base id cs) = counted ∙ sym (points-length base id cs) in
+      rw (a, b, c, ← points-length base id cs) (simp append-assoc)
+
+  pub block-put : (h : BlockHeader) → h ≡ headerIn k ch l r (length ld) (length rd) next → (b₁ b₂ b₃ : List ℕ) (x : ℕ) → x ≡ dataAfter k
+      → b₁ ≡ putAt o 0 (headerPut h) → b₂ ≡ putAt b₁ 32 (filledBytes base id cs) → b₃ ≡ putAt b₂ x (concat padded (dataIn ch ld rd))
+      → b₃ ≡ putAt o 0 (blockBytes next (l .length) (l .context) (secondContext ch r) (pointsOf base id cs) (dataIn ch ld rd))
+  block-put h eh b₁ b₂ b₃ x ex e₁ e₂ e₃ =
+      let lf : length (filledBytes base id cs) ≡ P (8 * k) = taken-length base id cs ∙ ap (λ (m : ℕ). P (8 * m)) (sym counted) in
+      let le : length (concat padded (dataIn ch ld rd)) ≡ dataSize ch (length ld) (length rd) = data-length (dataIn ch ld rd) ∙ data-size ch ld rd in
+      let p₁ = put-then (record { size = put-length-32 head; is = e₁ ∙ ap (λ (m : BlockHeader). putAt o 0 (headerPut m)) eh }) (filledBytes base id cs) lf e₂ (omega arith) (omega arith) in
+      let p₂ = put-then p₁ (concat padded (dataIn ch ld rd)) le e₃ (omega arith) (omega arith) in
+      p₂ .is ∙ ap (putAt o 0) parts

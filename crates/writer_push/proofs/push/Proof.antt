@@ -1,0 +1,143 @@
+use Prim.Native.Nat.{ℕ, _+_, _*_}
+use mathlib.Core.Path.{_≡_, ap, sym, _∙_}
+use native.Mathlib.Omega.{arith}
+use lib.ListN.{length}
+use Rattle.layout.specs.Records.{P}
+use Rattle.writer.specs.Loading.{Push, pushArgs}
+use Rattle.writer.specs.Push.{loopsHere, loopFrom}
+use Rattle.writer.specs.Calls.{withStream}
+use Rattle.writer.proofs.GoodLaws.{push-good}
+use Rattle.writer_push.proofs.PushLaws.{push-refused, push-accepted, sound, to-within, few-points, are-taken, Worked, due-is, passes, starts, totals, sized, room, after-is, bytes-are}
+use borrow.Author.Needs.{needs}
+use Rattle.writer_push.proofs.push.Statement.{statement}
+use Rattle.writer_push.proofs.push.Tie as tie
+use Rattle.writer_push.proofs.push.Reads as reads
+use Rattle.writer_push.proofs.push.Lts as lts
+use Rattle.writer_push.proofs.put_data.Reads as put-data-reads
+use Rattle.writer_push.proofs.refused.Reads as refused-reads
+use Rattle.writer_push_plan.proofs.advance.Reads as advance-reads
+use Rattle.writer_push_plan.proofs.block_end.Reads as block-end-reads
+use Rattle.writer_push_plan.proofs.plan_push.Reads as plan-push-reads
+use Rattle.writer_assign_cues.proofs.any_loop.Reads as any-loop-reads
+use Rattle.writer_assign_cues.proofs.put_taken.Reads as put-taken-reads
+use Rattle.writer_assign_cues.proofs.take.Reads as take-reads
+use Rattle.layout_put_block.proofs.put_header.Reads as put-header-reads
+
+-- ---- What is known at the places of the code
+
+abbrev start : tie.After-any-loop → tie.Start
+start c = c .before .before .before .before .before .before .before .before .before
+
+-- the push, in the words of the definitions
+abbrev pushed : tie.Start → Push
+pushed s = pushArgs (s .args .channels) (s .args .left) (s .args .right) (s .args .left-data .now) (s .args .right-data .now) (s .args .last)
+
+worked : (p : tie.After-plan-push) → let s = start (p .before) in
+    Worked (s .args .w) (s .args .channels) (s .args .left) (s .args .right) (s .args .left-data .now) (s .args .right-data .now) (s .args .last) (s .args .lent .now)
+    (p .before .before .before .block-end .result) (p .before .before .take .result) (p .before .any-loop .result) (p .plan-push .result)
+worked p =
+    let s = start (p .before) in
+    let w = s .args .w in
+    record {
+      good = s .pre;
+      ends = p .before .before .before .block-end .ensures;
+      takes = p .before .before .take .ensures;
+      loops =
+          ap
+          (λ b. loopFrom (w .stream .loopat) (w .stream .offset) (loopsHere (w .setup .mode) b (p .before .before .take .result .asked) (p .before .before .before .block-end .result) (s .args .last)))
+          (p .before .any-loop .ensures);
+      plans = p .plan-push .ensures;
+    }
+
+-- ---- The needs
+
+block-end-requires : tie.Need-block-end-requires
+block-end-requires c κs = search needs
+
+take-requires : tie.Need-take-requires
+take-requires c κs = search needs
+
+any-loop-requires : tie.Need-any-loop-requires
+any-loop-requires c κs = search needs
+
+plan-push-requires : tie.Need-plan-push-requires
+plan-push-requires c κs =
+    let s = start c in
+    (sound (s .args .w) (s .pre), few-points (s .args .w) (s .pre) _ _ _ (c .before .take .ensures))
+
+refused-requires : tie.Need-refused-requires
+refused-requires c κs = search needs
+
+returns : tie.Need-returns
+returns c =
+    let p = c .before .before .before in
+    let s = start (p .before) in
+    let q = push-refused (s .args .w) (pushed s) (s .args .lent .now) _ (due-is (worked p)) (c .before .if1 .taken) _ (c .refused .ensures) in
+    (q .0, (q .1, rw (c .refused .ensures) (s .pre)))
+
+put-header-requires : tie.Need-put-header-requires
+put-header-requires c κs = search needs
+
+put-taken-requires : tie.Need-put-taken-requires
+put-taken-requires c κs =
+    let e = c .before .before .before .before .before .before in
+    let p = e .before .before in
+    let s = start (p .before) in
+    let k = worked p in (
+      (to-within (s .args .w) (s .pre) _ _ _ (k .takes), omega (arith, s .pre .named, s .pre .placed, s .pre .few)),
+      (are-taken (s .args .w) (s .pre) _ _ _ (k .takes), omega (arith, totals k (e .if1 .left), room k (e .if1 .left) .1)),
+    )
+
+put-data-requires : tie.Need-put-data-requires
+put-data-requires c κs =
+    let e = c .before .before .before .before .before .before .before .before .before .before in
+    let k = worked (e .before .before) in
+    omega (arith, starts k (e .if1 .left), totals k (e .if1 .left), room k (e .if1 .left) .1)
+
+advance-requires : tie.Need-advance-requires
+advance-requires c κs =
+    let e = c .before .before .before .before .before .before .before .before .before .before .before .before .before in
+    let p = e .before .before in
+    let s = start (p .before) in
+    let k = worked p in
+    let h = passes k (e .if1 .left) in
+    let few = few-points (s .args .w) (s .pre) _ _ _ (k .takes) in (
+      omega (arith, s .pre .named, s .pre .placed, s .pre .few, few),
+      h .few,
+      few,
+      omega (arith, room k (e .if1 .left) .0, s .pre .small),
+      omega (arith, h .short, s .pre .sums, s .pre .many),
+    )
+
+same-length : tie.Need-same-length
+same-length c = search needs
+
+returns-2 : tie.Need-returns-2
+returns-2 c =
+    let v = c .before .before in
+    let e = v .before .before .before .before .before .before .before .before .before .before .before .before .before .before in
+    let p = e .before .before in
+    let s = start (p .before) in
+    let k = worked p in
+    let z = e .if1 .left in
+    let a = ap (withStream (s .args .w)) (v .advance .ensures) ∙ after-is k z in
+    let b = bytes-are k z _ _ _ (v .before .before .before .before .before .before .before .before .before .before .before .put-header .ensures) (v .before .before .before .before .before .before .before .put-taken .ensures) (v .before .before .before .put-data .ensures) in
+    let q = push-accepted (s .args .w) (pushed s) (s .args .lent .now) _ (due-is k) z _ _ _ a (sized k z) (room k z .1) b in
+    (q .0, (q .1, rw a (push-good (s .args .w) (pushed s) _ (s .pre) (sym (due-is k) ∙ z))))
+
+pub push-spec : {M : Type 1} → statement M
+push-spec =
+    tie.close
+    (tie.spec
+    block-end-requires
+    take-requires
+    any-loop-requires
+    plan-push-requires
+    refused-requires
+    returns
+    put-header-requires
+    put-taken-requires
+    put-data-requires
+    advance-requires
+    same-length
+    returns-2)

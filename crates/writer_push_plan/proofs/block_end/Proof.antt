@@ -1,0 +1,30 @@
+use native.Mathlib.Omega.{arith}
+use borrow.Author.Needs.{needs}
+use Rattle.writer_push_plan.proofs.PlanLaws.{end-fits, end-over}
+use Rattle.writer_push_plan.proofs.block_end.Statement.{statement}
+use Rattle.writer_push_plan.proofs.block_end.Tie as tie
+use Rattle.writer_push_plan.proofs.block_end.Reads as reads
+use Rattle.writer_push_plan.proofs.block_end.Lts as lts
+use Rattle.layout_sizes.proofs.adpcm_samples.Reads as adpcm-samples-reads
+
+adpcm-samples-requires : tie.Need-adpcm-samples-requires
+adpcm-samples-requires c κs = search needs
+
+sub-if1 : tie.Need-sub-if1
+sub-if1 c = search needs
+
+add-result : tie.Need-add-result
+add-result c = search needs
+
+returns : tie.Need-returns
+returns c =
+    let s = c .before .before in
+    end-fits (s .args .base) (s .args .length) _ (c .before .adpcm-samples .ensures) (c .if1 .taken) (omega (arith, s .fits .base .fits))
+
+returns-2 : tie.Need-returns-2
+returns-2 c =
+    let s = c .before .before in
+    end-over (s .args .base) (s .args .length) _ (c .before .adpcm-samples .ensures) (c .if1 .left) (omega (arith, s .fits .base .fits))
+
+pub block-end-spec : {M : Type 1} → statement M
+block-end-spec = tie.close (tie.spec adpcm-samples-requires sub-if1 add-result returns returns-2)

@@ -1,0 +1,25 @@
+use Rattle.writer_push_plan.proofs.PlanLaws.{stays-at, starts-here, starts-not}
+use borrow.Author.Needs.{needs}
+use Rattle.writer_push_plan.proofs.loop_after.Statement.{statement}
+use Rattle.writer_push_plan.proofs.loop_after.Tie as tie
+use Rattle.writer_push_plan.proofs.loop_after.Reads as reads
+use Rattle.writer_push_plan.proofs.loop_after.Lts as lts
+
+enum-told : tie.Need-enum-told
+enum-told c = search needs
+
+enum-told-2 : tie.Need-enum-told-2
+enum-told-2 c = search needs
+
+returns : tie.Need-returns
+returns c = search (stays-at, needs)
+
+returns-2 : tie.Need-returns-2
+returns-2 c = search (starts-here, needs)
+
+returns-3 : tie.Need-returns-3
+returns-3 c = search (starts-not, needs)
+
+pub loop-after-spec : {M : Type 1} → statement M
+loop-after-spec =
+    tie.close (tie.spec enum-told enum-told-2 returns returns-2 returns-3)

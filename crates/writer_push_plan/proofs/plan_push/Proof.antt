@@ -1,0 +1,143 @@
+use Prim.Native.Nat.{_+_, _≤_}
+use mathlib.Core.Path.{_≡_, ap}
+use native.Mathlib.Omega.{arith}
+use Rattle.layout.specs.Refusals.{lengthLimit}
+use Rattle.writer.specs.Loading.{dataSize}
+use Rattle.layout.specs.Records.{dataAfter}
+use Rattle.writer_push_plan.proofs.PlanLaws.{Passing, passing, size-small, block-small, fits-room, plan-early, plan-room, plan-made, loop-near}
+use borrow.Author.Needs.{needs}
+use Rattle.writer_push_plan.proofs.plan_push.Statement.{statement}
+use Rattle.writer_push_plan.proofs.plan_push.Tie as tie
+use Rattle.writer_push_plan.proofs.plan_push.Reads as reads
+use Rattle.writer_push_plan.proofs.plan_push.Lts as lts
+use Rattle.writer_push_refusal.proofs.early_due.Reads as early-due-reads
+use Rattle.writer_push_refusal.proofs.room_due.Reads as room-due-reads
+use Rattle.writer_push_plan.proofs.data_size.Reads as data-size-reads
+use Rattle.writer_push_plan.proofs.data_start.Reads as data-start-reads
+use Rattle.writer_push_plan.proofs.loop_after.Reads as loop-after-reads
+use Rattle.writer_push_plan.proofs.loop_due.Reads as loop-due-reads
+use Rattle.writer_push_plan.proofs.next_offset.Reads as next-offset-reads
+use Rattle.writer_push_plan.proofs.no_plan.Reads as no-plan-reads
+use Rattle.writer_push_plan.proofs.second_context.Reads as second-context-reads
+
+-- ---- Where a number before 24 is due
+
+early-due-requires : tie.Need-early-due-requires
+early-due-requires c κs = search needs
+
+no-plan-requires : tie.Need-no-plan-requires
+no-plan-requires c κs = search needs
+
+returns : tie.Need-returns
+returns c = search (plan-early, needs)
+
+-- ---- What is known at the places of the code
+
+abbrev start : tie.Else1 → tie.Start
+start c = c .before .before .before .before
+
+-- none before 24 is due
+early-none : (c : tie.Else1) → Passing (start c .args .s .blocks) (start c .args .channels) (start c .args .left) (start c .args .left-bytes) (start c .args .right-bytes)
+early-none c = passing _ _ _ _ _ _ _ _ _ _ _ (c .before .early-due .ensures) (c .if1 .left)
+
+small : (c : tie.After-data-size) → c .data-size .result ≤ lengthLimit
+small c =
+    let h = early-none (c .before) in
+    size-small _ _ _ _ (h .left) (h .right) (c .data-size .ensures)
+
+sized : (c : tie.After-data-start) → c .data-start .result + c .before .data-size .result ≡ dataAfter (start (c .before .before) .args .taken .points) + dataSize (start (c .before .before) .args .channels) (start (c .before .before) .args .left-bytes) (start (c .before .before) .args .right-bytes)
+sized c = rw (c .data-start .ensures, c .before .data-size .ensures)
+
+-- the block fits into slot and buffer
+room : (c : tie.Else2)
+    → (start (c .before .before .before .before) .args .s .offset + (c .before .before .data-start .result + c .before .before .before .data-size .result) ≤ start (c .before .before .before .before) .args .setup .slot)
+    × (c .before .before .data-start .result + c .before .before .before .data-size .result ≤ start (c .before .before .before .before) .args .lent)
+room c = fits-room _ _ _ _ _ (c .before .room-due .ensures) (c .if2 .left)
+
+-- ---- The other needs
+
+data-size-requires : tie.Need-data-size-requires
+data-size-requires c κs = let h = early-none c in (h .left, h .right)
+
+data-start-requires : tie.Need-data-start-requires
+data-start-requires c κs = search needs
+
+add-size : tie.Need-add-size
+add-size c = omega (arith, block-small _ _ _ (start (c .before .before) .pre .1) (small (c .before)) (ap (λ m. m + c .before .data-size .result) (c .data-start .ensures)))
+
+room-due-requires : tie.Need-room-due-requires
+room-due-requires c κs = search needs
+
+no-plan-requires-2 : tie.Need-no-plan-requires-2
+no-plan-requires-2 c κs = search needs
+
+returns-2 : tie.Need-returns-2
+returns-2 c =
+    let d = c .before .before .before in
+    let e = d .before .before in
+    let s = start e in
+    plan-room (s .args .setup) (s .args .s) (s .args .taken) (s .args .held) (s .args .end) (s .args .channels) (s .args .left) (s .args .right) (s .args .left-bytes) (s .args .right-bytes) (s .args .last) (s .args .lent)
+    _ (e .before .early-due .ensures) (e .if1 .left) _ _ (sized d) (c .before .before .room-due .ensures) (c .before .if2 .taken) _ (c .no-plan2 .ensures)
+
+loop-due-requires : tie.Need-loop-due-requires
+loop-due-requires c κs = search needs
+
+loop-after-requires : tie.Need-loop-after-requires
+loop-after-requires c κs = search needs
+
+add-next-offset : tie.Need-add-next-offset
+add-next-offset c =
+    let e = c .before .before .before in
+    omega (arith, room e .0, start (e .before .before .before .before) .pre .0 .small)
+
+next-offset-requires : tie.Need-next-offset-requires
+next-offset-requires c κs =
+    let e = c .before .before .before in
+    let s = start (e .before .before .before .before) in
+    (omega (arith, room e .0, s .pre .0 .small), λ n q. omega (arith, loop-near _ _ (s .pre .0) (c .before .before .loop-due .result) _ (c .before .loop-after .ensures) n q, s .pre .0 .room, s .pre .0 .small))
+
+second-context-requires : tie.Need-second-context-requires
+second-context-requires c κs = search needs
+
+cast-padded : tie.Need-cast-padded
+cast-padded c = record { fits = omega (arith, small (c .before .before .before .before .before .before .before .before .before)) }
+
+sub-last-address : tie.Need-sub-last-address
+sub-last-address c = omega (arith, early-none (c .before .before .before .before .before .before .before .before .before .before .before) .long)
+
+cast-end-address : tie.Need-cast-end-address
+cast-end-address c = record { fits = omega (arith, early-none (c .before .before .before .before .before .before .before .before .before .before .before) .short) }
+
+returns-3 : tie.Need-returns-3
+returns-3 c =
+    let n = c .before .before .before in
+    let f = n .before .before in
+    let d = f .before .before .before .before in
+    let e = d .before .before in
+    let s = start e in
+    plan-made (s .args .setup) (s .args .s) (s .args .taken) (s .args .held) (s .args .end) (s .args .channels) (s .args .left) (s .args .right) (s .args .left-bytes) (s .args .right-bytes) (s .args .last) (s .args .lent)
+    _ (e .before .early-due .ensures) (e .if1 .left) _ _ (sized d) (f .before .before .before .room-due .ensures) (f .before .before .if2 .left) _ (f .before .loop-due .ensures) _ (f .loop-after .ensures)
+    _ _ _ _ (d .before .data-size .ensures) (d .data-start .ensures) (n .next-offset .ensures) (c .before .second-context .ensures)
+
+pub plan-push-spec : {M : Type 1} → statement M
+plan-push-spec =
+    tie.close
+    (tie.spec
+    early-due-requires
+    no-plan-requires
+    returns
+    data-size-requires
+    data-start-requires
+    add-size
+    room-due-requires
+    no-plan-requires-2
+    returns-2
+    loop-due-requires
+    loop-after-requires
+    add-next-offset
+    next-offset-requires
+    second-context-requires
+    cast-padded
+    sub-last-address
+    cast-end-address
+    returns-3)

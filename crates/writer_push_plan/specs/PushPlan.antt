@@ -1,0 +1,72 @@
+-- The plan of a push: what its code works out of numbers alone, before it writes a byte.
+use Prim.Native.Nat.{ℕ, _+_, _-_, _≤_}
+use mathlib.Core.Path.{_≡_}
+use mathlib.Core.Bool.{Bool}
+use mathlib.Core.List.{_++_}
+use lib.Dec.{eqb}
+use Rattle.layout.specs.Choice.{pick}
+use Rattle.layout.specs.Records.{zeroContext, dataAfter}
+use Rattle.layout.specs.Refusals.{firstDue, slotLimit}
+use Rattle.layout.specs.declared.BlockHeader.{BlockHeader}
+use Rattle.writer.specs.Loading.{dataSize, secondContext, earlyDue, roomDue}
+use Rattle.writer.specs.Push.{loopsHere, loopFrom, nextOffset}
+use Rattle.writer.specs.declared.ChannelBlock.{ChannelBlock}
+use Rattle.writer.specs.declared.LoopAt.the-variants.{Nowhere, At}
+use Rattle.writer.specs.declared.Setup.{Setup}
+use Rattle.writer.specs.declared.Stream.{Stream}
+use Rattle.writer_assign_cues.specs.declared.Taken.{Taken}
+use Rattle.writer_push_plan.specs.declared.Plan.{Plan}
+
+-- What a plan asks of the record: the numbers that it adds up are small.
+pub record Sound (u : Setup) (s : Stream) : Type 0 where
+  pub small : u .slot ≤ slotLimit
+  pub room : s .offset ≤ u .slot
+  pub looped : (n : ℕ) → s .loopat ≡ At n → n ≤ s .offset
+
+-- The first number due of a push whose block has so many points and ranges.
+unfoldable pub planDue : Setup → Stream → (points channels : ℕ) (left right : ChannelBlock) (leftBytes rightBytes lent : ℕ) → ℕ
+planDue u s k ch l r lb rb lent =
+    firstDue
+    (earlyDue (s .last) (u .channels) (s .blocks) (s .left) (s .right) ch l r lb rb ++ roomDue (u .slot) (s .offset) (dataAfter k + dataSize ch lb rb) lent)
+
+-- The header of a block of so many points and ranges with this next offset.
+unfoldable pub headerIn : (points channels : ℕ) (left right : ChannelBlock) (leftBytes rightBytes next : ℕ) → BlockHeader
+headerIn k ch l r lb rb next =
+    record {
+      size = dataSize ch lb rb;
+      «end_address» = l .length - 1;
+      «next_offset» = next;
+      left = l .context;
+      right = secondContext ch r;
+      cues = k;
+    }
+
+-- Refused with this number.
+abbrev pub noPlan : ℕ → Plan
+noPlan n =
+    record {
+      due = n;
+      header = record { size = 0; «end_address» = 0; «next_offset» = 0; left = zeroContext; right = zeroContext; cues = 0 };
+      start = 0;
+      size = 0;
+      loopat = Nowhere;
+    }
+
+-- A block that takes these cues.
+unfoldable pub madePlan : Setup → Stream → Taken → (held : Bool) (end channels : ℕ) (left right : ChannelBlock) (leftBytes rightBytes : ℕ) (last : Bool) → Plan
+madePlan u s t held end ch l r lb rb last =
+    let size = dataAfter (t .points) + dataSize ch lb rb in
+    let loopat = loopFrom (s .loopat) (s .offset) (loopsHere (u .mode) held (t .asked) end last) in
+    record {
+      due = 0;
+      header = headerIn (t .points) ch l r lb rb (nextOffset last loopat (s .offset + size));
+      start = dataAfter (t .points);
+      size = size;
+      loopat = loopat;
+    }
+
+-- The plan: refused with the first number due, or made.
+unfoldable pub planOf : Setup → Stream → Taken → (held : Bool) (end channels : ℕ) (left right : ChannelBlock) (leftBytes rightBytes : ℕ) (last : Bool) (lent : ℕ) → Plan
+planOf u s t held end ch l r lb rb last lent =
+    let n = planDue u s (t .points) ch l r lb rb lent in
+    pick (eqb n 0) (madePlan u s t held end ch l r lb rb last) (noPlan n)

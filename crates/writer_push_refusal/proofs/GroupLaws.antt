@@ -1,0 +1,28 @@
+-- Each group of push's refusals has its numbers: for `search grouped`.
+use Prim.Native.Nat.{ℕ}
+use mathlib.Core.Bool.{Bool}
+use Rattle.writer.specs.declared.ChannelBlock.{ChannelBlock}
+use Rattle.writer.specs.Loading.{stateDue, rateDue, lengthDue, dataDue, coefficientsDue, earlyDue}
+use Rattle.writer_push_refusal.proofs.DecideLaws.{Numbered, none, more, group-yes, group-no}
+
+pub state-numbered : (last : Bool) (own n ch : ℕ) → Numbered (stateDue last own n ch)
+unfolding stateDue
+state-numbered last own n ch = more (more (more none))
+
+pub rate-numbered : (n f ch l r : ℕ) → Numbered (rateDue n f ch l r)
+unfolding rateDue
+rate-numbered n f ch l r = more (more (more none))
+
+pub length-numbered : (ch l r : ℕ) → Numbered (lengthDue ch l r)
+unfolding lengthDue
+length-numbered ch l r = more (more (more none))
+
+pub data-numbered : (ch l lb r rb : ℕ) → Numbered (dataDue ch l lb r rb)
+unfolding dataDue
+data-numbered ch l lb r rb = more none
+
+pub early-numbered : (last : Bool) (own n : ℕ) (f g : ChannelBlock) (ch : ℕ) (l r : ChannelBlock) (lb rb : ℕ) → Numbered (earlyDue last own n f g ch l r lb rb)
+unfolding earlyDue stateDue rateDue lengthDue dataDue coefficientsDue
+early-numbered last own n f g ch l r lb rb = more (more (more (more (more (more (more (more (more (more (more none))))))))))
+
+pub ruleset grouped = (group-yes, group-no, state-numbered, rate-numbered, length-numbered, data-numbered)

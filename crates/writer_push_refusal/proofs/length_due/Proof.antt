@@ -1,0 +1,47 @@
+use Rattle.writer.specs.Loading.{lengthDue}
+use Rattle.writer_push_refusal.proofs.DecideLaws.{decide-calls}
+use borrow.Author.Needs.{needs}
+use Rattle.writer_push_refusal.proofs.length_due.Statement.{statement}
+use Rattle.writer_push_refusal.proofs.length_due.Tie as tie
+use Rattle.writer_push_refusal.proofs.length_due.Reads as reads
+use Rattle.writer_push_refusal.proofs.length_due.Lts as lts
+use Rattle.layout_sizes.proofs.adpcm_bytes.Reads as adpcm-bytes-reads
+use Rattle.writer_push_refusal.proofs.differ.Reads as differ-reads
+use Rattle.layout_sizes.proofs.size_limit.Reads as size-limit-reads
+
+differ-requires : tie.Need-differ-requires
+differ-requires c κs = search needs
+
+returns : tie.Need-returns
+unfolding lengthDue
+returns c = search decide-calls
+
+returns-2 : tie.Need-returns-2
+unfolding lengthDue
+returns-2 c = search decide-calls
+
+size-limit-requires : tie.Need-size-limit-requires
+size-limit-requires c κs = search needs
+
+adpcm-bytes-requires : tie.Need-adpcm-bytes-requires
+adpcm-bytes-requires c κs = search needs
+
+returns-3 : tie.Need-returns-3
+unfolding lengthDue
+returns-3 c = search decide-calls
+
+returns-4 : tie.Need-returns-4
+unfolding lengthDue
+returns-4 c = search decide-calls
+
+pub length-due-spec : {M : Type 1} → statement M
+length-due-spec =
+    tie.close
+    (tie.spec
+    differ-requires
+    returns
+    returns-2
+    size-limit-requires
+    adpcm-bytes-requires
+    returns-3
+    returns-4)

@@ -1,0 +1,35 @@
+use Rattle.writer.specs.Loading.{rateDue}
+use Rattle.writer_push_refusal.proofs.DecideLaws.{decide}
+use borrow.Author.Needs.{needs}
+use Rattle.writer_push_refusal.proofs.rate_due.Statement.{statement}
+use Rattle.writer_push_refusal.proofs.rate_due.Tie as tie
+use Rattle.writer_push_refusal.proofs.rate_due.Reads as reads
+use Rattle.writer_push_refusal.proofs.rate_due.Lts as lts
+use Rattle.writer_push_refusal.proofs.changed.Reads as changed-reads
+use Rattle.writer_push_refusal.proofs.differ.Reads as differ-reads
+
+differ-requires : tie.Need-differ-requires
+differ-requires c κs = search needs
+
+returns : tie.Need-returns
+unfolding rateDue
+returns c = search decide
+
+changed-requires : tie.Need-changed-requires
+changed-requires c κs = search needs
+
+returns-2 : tie.Need-returns-2
+unfolding rateDue
+returns-2 c = search decide
+
+returns-3 : tie.Need-returns-3
+unfolding rateDue
+returns-3 c = search decide
+
+returns-4 : tie.Need-returns-4
+unfolding rateDue
+returns-4 c = search decide
+
+pub rate-due-spec : {M : Type 1} → statement M
+rate-due-spec =
+    tie.close (tie.spec differ-requires returns changed-requires returns-2 returns-3 returns-4)

@@ -1,0 +1,25 @@
+use Rattle.writer.specs.Loading.{stateDue}
+use Rattle.writer_push_refusal.proofs.DecideLaws.{decide}
+use Rattle.writer_push_refusal.proofs.state_due.Statement.{statement}
+use Rattle.writer_push_refusal.proofs.state_due.Tie as tie
+use Rattle.writer_push_refusal.proofs.state_due.Reads as reads
+use Rattle.writer_push_refusal.proofs.state_due.Lts as lts
+
+returns : tie.Need-returns
+unfolding stateDue
+returns c = search decide
+
+returns-2 : tie.Need-returns-2
+unfolding stateDue
+returns-2 c = search decide
+
+returns-3 : tie.Need-returns-3
+unfolding stateDue
+returns-3 c = search decide
+
+returns-4 : tie.Need-returns-4
+unfolding stateDue
+returns-4 c = search decide
+
+pub state-due-spec : {M : Type 1} → statement M
+state-due-spec = tie.close (tie.spec returns returns-2 returns-3 returns-4)

@@ -13,7 +13,6 @@ use denote.Array.{each}
 use denote.Shadow.{shadow}
 use denote.Signed.{SInt}
 use borrow.Author.Tests.{eq-eqb, ne-eqb, eqb-true, eqb-false}
-use Rattle.layout.specs.Choice.{_and_}
 use Rattle.layout.specs.Lists.{All}
 use Rattle.layout.specs.Puts.{putAt}
 use Rattle.layout.proofs.Cases.{by-cases}
@@ -25,7 +24,8 @@ use Rattle.writer.proofs.GoodLaws.{push-good}
 use Rattle.writer.specs.declared.ChannelBlock.{ChannelBlock}
 use Rattle.writer.specs.declared.Cue.{Cue}
 use Rattle.writer_assign_cues.specs.declared.Taken.{Taken}
-use Rattle.c_record.specs.Fields.{streamOf, writerOf, fieldsOf, fieldsWith}
+use Rattle.c_record.specs.Fields.{writerOf, fieldsOf, fieldsWith}
+use Rattle.writer.specs.declared.Stream.{Stream}
 use Rattle.writer_push_plan.specs.declared.Plan.{Plan}
 use Rattle.c_record.specs.declared.Fields.{Fields}
 use Rattle.c_record.specs.KeptSides.{sideIn, tableIn, cuesAt, leftAt, rightAt, loaderSize}
@@ -34,7 +34,7 @@ use Rattle.c_record_put.specs.KeptNumbers.{numberBytes}
 use Rattle.c_record_put.proofs.NumberLaws.{numbers-length}
 use Rattle.c_record.specs.KeptWriter.{fieldsIn, streamIn, writerIn}
 use Rattle.c_record.proofs.KeptLaws.{kept-good}
-use Rattle.writer_push.proofs.PushLaws.{Worked, due-is, after-is}
+use Rattle.writer_push.proofs.PushLaws.{Worked, due-is, advances, after-is}
 use Rattle.c_record_put.proofs.SameLaws.{same-after}
 use Rattle.c_record_put.proofs.ThereLaws.{put-there}
 use Rattle.c_record_put.specs.KeptRecord.{pushedBytes}
@@ -72,25 +72,28 @@ side-there k = (refl, refl)
 module _ (k : List ℕ) (some : streamIn k .slot ≡ 0 → ⊥) {ch : ℕ} {l r : ChannelBlock} {ld rd : List ℕ} {last : Bool} {lent : List ℕ} {end : ℕ} {t : Taken} {held : Bool} {plan : Plan}
     (w : Worked (writerIn k) ch l r ld rd last lent end t held plan) (z : plan .due ≡ 0) (fl : SideFits l) (fr : SideFits r) (long : Long (streamIn k .channels)) where
   abbrev next : Fields
-  next = fieldsWith (streamIn k) (advanced (streamOf (streamIn k)) (t .to) (t .points) end (plan .size) (plan .loopat) l r last)
+  next = fieldsWith (streamIn k) (plan .after)
 
   next-good : Good (writerOf (tableIn k cuesAt (streamIn k .count)) next)
   next-good = rw (after-is w z) (push-good (writerIn k) (pushArgs ch l r ld rd last) (length lent) (kept-good k) (sym (due-is w) ∙ z))
 
   first-fits : next .blocks ≡ 1 → SideFits (next .left) × SideFits (next .right)
   unfolding advanced
-  first-fits e = rw (eq-eqb (streamIn k .blocks) 0 (omega arith)) (fl, fr)
+  first-fits e =
+      let a = advances w z in
+      let none : streamIn k .blocks ≡ 0 = omega (arith, e, ap (λ (m : Stream). m .blocks) a) in
+      rw (a, eq-eqb (streamIn k .blocks) 0 none) (fl, fr)
 
   later-there : (next .blocks ≡ 1 → ⊥) → (sideIn k leftAt ≡ next .left) × (sideIn k rightAt ≡ next .right)
   unfolding advanced
   later-there h =
       let there = holds k some .is in
       let e = side-there k in
-      rw (ne-eqb (streamIn k .blocks) 0 (λ n. h (ap (λ (m : ℕ). m + 1) n)))
+      let a = advances w z in
+      rw (a, ne-eqb (streamIn k .blocks) 0 (λ n. h (ap (λ (m : Stream). m .blocks) a ∙ ap (λ (m : ℕ). m + 1) n)))
       (sym (ap (λ (s : Fields). s .left) there ∙ e .0), sym (ap (λ (s : Fields). s .right) there ∙ e .1))
 
   kept-there : (next .channels ≡ streamIn k .channels) × (next .count ≡ streamIn k .count)
-  unfolding advanced
   kept-there = (refl, refl)
 
   pub push-after : writerIn (putAt k 0 (pushedBytes next)) ≡ pushOf (writerIn k) (pushArgs ch l r ld rd last) lent .writer

@@ -15,7 +15,6 @@ use layout::limits::BLOCK_HEADER_SIZE;
 use layout_put_block::put_header;
 use writer::ChannelBlock;
 use writer_push::put_data;
-use writer_push_plan::advance;
 use writer_push_plan::block_end;
 use writer_push_plan::plan_push;
 ghost use mathlib.Core.Path.{_≡_};
@@ -97,8 +96,7 @@ pub fn push_kept(
         taken.points,
     );
     put_data(lent, plan.start, channels, left_data, right_data);
-    let loopat = plan.loopat;
-    let after = advance(stream, taken, end, plan.size, loopat, left, right, last);
+    let after = plan.after;
     let fields = with_stream(s, after);
     put_pushed(kept, fields);
     KeptCall {

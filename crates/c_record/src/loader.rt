@@ -376,5 +376,5 @@ pub fn put_taken_kept(
         return;
     }
     let cues = cues_in(kept, CUES_AT, count);
-    put_taken(buf, at, cues, from, to, base, id, points);
+    put_taken(buf, at, cues, from, to, base, id);
 }

@@ -25,7 +25,7 @@ EARLIER has the slot's earlier content, 192 to 65,536 bytes; SCRIPT the loading 
 A moment is the number of bytes of all writes, in order, that had reached the slot when the power
 failed. So moments are prefixes; the theorem, PowerCut, covers any tearing: it says what the slot
 opens to whatever values the write under way has left in its range.
-docs/GUIDE.md has the script's words.
+docs/CUT.md has the script's words.
 ",
     );
 }

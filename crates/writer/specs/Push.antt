@@ -1,9 +1,9 @@
 -- Push (document 01, "Loading"), by the numbers that its code works with: the cues that a block takes, the loop block, the next offset, and the stream
 -- after it. `pushOf` in Calls is made of these, and each function of push's code is equal to one of them.
-use Prim.Native.Nat.{ℕ, suc, _+_, _-_}
+use Prim.Native.Nat.{ℕ, suc, _+_}
 use mathlib.Core.Bool.{Bool, false}
 use mathlib.Core.List.{List, [], _∷_}
-use lib.ListN.{take}
+use lib.ListN.{length, take}
 use lib.Seq.{slice}
 use lib.Dec.{ltb, eqb}
 use Rattle.layout.specs.Choice.{pick, _or_}
@@ -26,7 +26,7 @@ below lim (c ∷ cs) = pick (ltb (c .start) lim) (suc (below lim cs)) 0
 -- "takes the cues not yet taken whose start is below b + n; the last takes all that remain": how many of the table's cues from one place to another, by
 -- the sample that the block ends before
 unfoldable pub countTaken : List Cue → (from count end : ℕ) (last : Bool) → ℕ
-countTaken t from n end last = pick last (n - from) (below end (slice from n t))
+countTaken t from n end last = pick last (length (slice from n t)) (below end (slice from n t))
 
 -- These cues.
 unfoldable pub cuesTaken : List Cue → (from count end : ℕ) (last : Bool) → List Cue

@@ -1,33 +1,23 @@
 -- The bytes of the cues that a block takes, put one part after the other.
-use Prim.Native.Nat.{ℕ, suc, _+_, _-_, _*_, _/_, _%_, _<_, _≤_}
+use Prim.Native.Nat.{ℕ, _+_, _-_, _*_, _/_, _%_, _<_, _≤_}
 use mathlib.Core.Path.{_≡_, refl, ap, sym, _∙_}
 use mathlib.Core.Bool.{Bool, true, false}
-use mathlib.Core.List.{List, [], _∷_, _++_, append-assoc, append-nil}
+use mathlib.Core.List.{List, [], _∷_, _++_}
 use native.Mathlib.Omega.{arith}
 use native.Mathlib.Numerals.{add-one}
-use borrow.Author.Tests.{eq-eqb, ne-eqb}
 use lib.ListN.{length, getD, length-append}
-use lib.Seq.{slice, length-slice}
-use lib.Dec.{eqb}
-use Rattle.layout.specs.Lists.{sum, concat}
-use Rattle.layout.specs.Records.{P, be32, cueBytes, fillers, padded, sizeOf, blockHeader, blockBytes}
+use lib.Seq.{slice}
+use Rattle.layout.specs.Lists.{concat, filter}
+use Rattle.layout.specs.Records.{P, be32, cueBytes, fillers}
 use Rattle.layout.specs.Puts.{putAt}
-use Rattle.layout_put_block.specs.HeaderPut.{headerPut}
 use Rattle.layout.specs.Sizes.{saturated}
-use Rattle.layout.proofs.Lengths.{be32-length, cue-length, cues-length, filled-length, padded-length, data-length}
+use Rattle.layout.proofs.Lengths.{be32-length, cue-length, cues-length, filled-length}
 use Rattle.layout.proofs.SizeLaws.{aligned}
-use Rattle.layout_put_block.proofs.WrittenLaws.{put-length-32, header-put-is}
-use Rattle.layout.proofs.Cases.{by-cases}
-use Rattle.layout.proofs.PutLaws.{putAt-length, putAt-none, putAt-next, Put, put-then}
+use Rattle.layout.proofs.PutLaws.{putAt-length, putAt-out, putAt-none, putAt-next, put-then}
 use Rattle.writer.specs.Loading.{loops, points, pointsOf}
 use Rattle.writer_assign_cues.specs.Taking.{cuePoint, pointBytes, filledBytes}
-use Rattle.writer.specs.Calls.{Good}
-use Rattle.layout.specs.declared.FrameContext.{FrameContext}
-use Rattle.layout.specs.declared.BlockHeader.{BlockHeader}
-use Rattle.writer.specs.declared.ChannelBlock.{ChannelBlock}
 use Rattle.writer.specs.declared.Cue.{Cue}
-use Rattle.writer.specs.declared.HpsWriter.{HpsWriter}
-use Rattle.writer.proofs.CueLaws.{points-few, points-length}
+use Rattle.writer.proofs.CueLaws.{points-length}
 use Rattle.writer_assign_cues.proofs.TakeLaws.{unrolled, none-left}
 use Rattle.layout.specs.Refusals.{cueLimit}
 
@@ -43,11 +33,11 @@ low-bits n =
     let d : n % 4294967296 % 256 ≡ n % 256 = omega arith in
     rw (a, b, c, d)
 
-pub point-put : (l b b′ : List ℕ) (at i n : ℕ) → at + 8 ≤ length l → b ≡ putAt l at (be32 (i % 4294967296)) → b′ ≡ putAt b (at + 4) (be32 n)
+pub point-put : (l b b′ : List ℕ) (at i n : ℕ) → at + 8 ≤ length l → b ≡ putAt l at (be32 (i % 4294967296)) → b′ ≡ putAt b (at + 4) (be32 (n % 4294967296))
     → b′ ≡ putAt l at (cueBytes (cuePoint i n))
 unfolding cueBytes
 point-put l b b′ at i n h e f =
-    put-then (record { size = be32-length i; is = e ∙ ap (putAt l at) (low-bits i) }) (be32 n) (be32-length n) f refl (omega arith) .is
+    put-then (record { size = be32-length i; is = e ∙ ap (putAt l at) (low-bits i) }) (be32 n) (be32-length n) (f ∙ ap (putAt b (at + 4)) (low-bits n)) refl (omega arith) .is
 
 -- ---- Points and ranges of a part of the table
 
@@ -150,3 +140,18 @@ module _ (l : List ℕ) (at base id k : ℕ) (cs : List Cue) (counted : k ≡ po
         let f′ : b′ ≡ putAt b (at + 8 * k) (concat cueBytes (fillers (points cs))) = rw (← counted) f in
         let s = point-length base id cs in
         put-then (record { size = s; is = e }) (concat cueBytes (fillers (points cs))) refl f′ (omega arith) (omega (arith, fill-length base id cs)) .is
+
+-- ---- Any places and any buffer
+
+module _ (l : List ℕ) (at base id : ℕ) (cs : List Cue) where
+  pub no-cues-put : cs ≡ [] → l ≡ putAt l at (filledBytes base id cs)
+  unfolding points filter
+  no-cues-put e = no-points l at base id 0 cs (rw e) refl
+
+  pub too-long : (k size : ℕ) → k ≡ points cs → size ≡ saturated (P (8 * k)) → k ≤ cueLimit → length l < at + size → l ≡ putAt l at (filledBytes base id cs)
+  too-long k size ek es few h =
+      let s : size ≡ P (8 * k) = es ∙ aligned (8 * k) (omega arith) in
+      sym (putAt-out l at (filledBytes base id cs) (omega (arith, taken-length base id cs, ap (λ (m : ℕ). P (8 * m)) ek)))
+
+pub cues-size : (k size : ℕ) → size ≡ saturated (P (8 * k)) → k ≤ cueLimit → size ≡ P (8 * k)
+cues-size k size e few = e ∙ aligned (8 * k) (omega arith)

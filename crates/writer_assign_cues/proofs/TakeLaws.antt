@@ -1,15 +1,15 @@
 -- Loops over a part of the cue table: how many start below a limit, how many are points and ranges, whether a Loop is among them.
-use Prim.Native.Nat.{ℕ, zero, suc, _+_, _-_, _<_, _≤_}
+use Prim.Native.Nat.{ℕ, zero, suc, _+_, _-_, _<_, _≤_, min}
 use mathlib.Core.Path.{_≡_, refl, ap, sym, _∙_}
 use mathlib.Core.Bool.{Bool, true, false}
 use mathlib.Core.List.{List, [], _∷_}
 use native.Mathlib.Omega.{arith}
-use native.Mathlib.Nat.{zero-add, suc-add}
+use native.Mathlib.Nat.{zero-add, suc-add, add-zero}
 use native.Mathlib.Numerals.{add-one}
-use borrow.Author.Tests.{lt-ltb, le-ltb}
-use lib.Dec.{ltb}
+use borrow.Author.Tests.{lt-ltb, le-ltb, leb-true, leb-false}
+use lib.Dec.{ltb, leb}
 use lib.ListN.{length, getD, take, drop, drop-of-length-le}
-use lib.Seq.{slice, slice-cons, slice-empty, length-slice, length-take-le, take-take, take-nil}
+use lib.Seq.{slice, slice-cons, slice-empty, length-slice, length-take-le, take-take, take-nil, take-all}
 use Rattle.layout.specs.Choice.{_or_}
 use Rattle.layout.specs.Lists.{any, filter}
 use Rattle.layout.proofs.Cases.{by-cases}
@@ -160,13 +160,14 @@ module _ (t : List Cue) (from count end : ℕ) (last : Bool) (placed : from ≤ 
   unfolding tallied countTaken below points filter any
   none-taken e =
       let z : below end (slice from count t) ≡ 0 = rw (← e, slice-empty) in
-      let k : countTaken t from count end last ≡ 0 = by-cases last (λ q. rw q (omega arith)) (λ q. rw q z) in
+      let k : countTaken t from count end last ≡ 0 = by-cases last (λ q. rw (q, ← e, slice-empty)) (λ q. rw q z) in
       taken-are _ from 0 k (omega arith) (omega arith) (rw slice-empty)
 
   module _ (r : Taken) where
-    pub all-taken : last ≡ true → r ≡ tallied count (slice from count t) → r ≡ tallied (from + countTaken t from count end last) (cuesTaken t from count end last)
+    pub all-taken : last ≡ true → count ≤ length t → r ≡ tallied count (slice from count t)
+        → r ≡ tallied (from + countTaken t from count end last) (cuesTaken t from count end last)
     unfolding countTaken
-    all-taken l e = taken-are r count (count - from) (rw l) (omega arith) (omega arith) e
+    all-taken l within e = taken-are r count (count - from) (rw l (length-slice from count t within)) (omega arith) (omega arith) e
 
     pub some-taken : (to : ℕ) → last ≡ false → to ≡ from + below end (slice from count t) → to ≤ count
         → r ≡ tallied to (slice from to t) → r ≡ tallied (from + countTaken t from count end last) (cuesTaken t from count end last)
@@ -210,3 +211,35 @@ module _ (t : List Cue) (from count end : ℕ) (last : Bool) (placed : from ≤ 
       taken-few =
           let n = length-slice from (r .to) t (omega (arith, taken-within)) in
           omega (arith, taking .counted, points-few (slice from (r .to) t))
+
+-- ---- Any places: there are no cues beyond the table
+
+module _ (t : List Cue) (n m : ℕ) (len : length t ≡ cueLimit) (least : m ≡ min n cueLimit) where
+  clamp : take n t ≡ take m t
+  clamp =
+      by-cases (leb n cueLimit)
+      (λ q. let h = leb-true n cueLimit q in let e : n ≡ m = omega arith in ap (λ (k : ℕ). take k t) e)
+      (λ q. let h = leb-false n cueLimit q in take-all n t (omega arith) ∙ sym (take-all m t (omega arith)))
+
+  pub same-part : (from : ℕ) → slice from m t ≡ slice from n t
+  same-part from = ap (drop from) (sym clamp)
+
+  pub same-taken : (from end : ℕ) (last : Bool) {r : Taken} → r ≡ tallied (from + countTaken t from m end last) (cuesTaken t from m end last)
+      → r ≡ tallied (from + countTaken t from n end last) (cuesTaken t from n end last)
+  unfolding countTaken cuesTaken
+  same-taken from end last e = rw (← same-part from) e
+
+  pub no-cue-left : (from end : ℕ) (last : Bool) → m ≤ from
+      → record { to = from; points = 0; asked = false } ≡ tallied (from + countTaken t from n end last) (cuesTaken t from n end last)
+  unfolding tallied countTaken cuesTaken below points filter any
+  no-cue-left from end last h =
+      let e : slice from n t ≡ [] = sym (same-part from) ∙ none-left t m from len (omega arith) h in
+      by-cases last (λ q. rw (q, e, add-zero from)) (λ q. rw (q, e, add-zero from))
+
+-- what is counted of a part of the table
+pub tally-few : (t : List Cue) (from m : ℕ) → length t ≡ cueLimit → m ≤ cueLimit → from ≤ m → {r : Taken} → r ≡ tallied m (slice from m t)
+    → (r .points ≡ points (slice from m t)) × (r .points ≤ cueLimit)
+unfolding tallied
+tally-few t from m len most le e =
+    let k = ap (λ (x : Taken). x .points) e in
+    (k, omega (arith, k, points-few (slice from m t), length-slice from m t (omega arith)))

@@ -1,8 +1,11 @@
 // The cues that a block takes of the table, and their bytes (document 01, "Loading").
+use layout::fields::inside;
+use layout::least;
 use layout::limits::CUE_LIMIT;
 use layout::limits::CUE_POINT_SIZE;
 use layout_put::put_u32;
 use layout_put_block::put_fillers;
+use layout_sizes::align;
 use writer::Cue;
 use writer::CueKind;
 ghost use mathlib.Core.Path.{_≡_};
@@ -69,8 +72,8 @@ fn tally(cues: [Cue; CUE_LIMIT], from: usize, to: usize) -> Taken
     Taken { to, points, asked }
 }
 
-// Of the cues from a place on those that a block takes whose samples end before this one; the last takes all that remain.
-pub fn take(cues: [Cue; CUE_LIMIT], from: usize, count: usize, end: u64, last: bool) -> Taken
+// Of the cues of the table from a place on those that a block takes whose samples end before this one; the last takes all that remain.
+fn take_within(cues: [Cue; CUE_LIMIT], from: usize, count: usize, end: u64, last: bool) -> Taken
     requires { ⌜ (from ≤ count) × (count ≤ cueLimit) ⌝ }
     ensures { λ r. ⌜ r ≡ tallied (from + countTaken cues from count end last) (cuesTaken cues from count end last) ⌝ }
 {
@@ -81,8 +84,22 @@ pub fn take(cues: [Cue; CUE_LIMIT], from: usize, count: usize, end: u64, last: b
     tally(cues, from, to)
 }
 
-// Whether the table has a Loop.
-pub fn any_loop(cues: [Cue; CUE_LIMIT], count: usize) -> bool
+// The same of any places: there are no cues beyond the table.
+pub fn take(cues: [Cue; CUE_LIMIT], from: usize, count: usize, end: u64, last: bool) -> Taken
+    ensures { λ r. ⌜ r ≡ tallied (from + countTaken cues from count end last) (cuesTaken cues from count end last) ⌝ }
+{
+    let most = least(count, CUE_LIMIT);
+    if from < most {
+        return take_within(cues, from, most, end, last);
+    }
+    Taken {
+        to: from,
+        points: 0,
+        asked: false,
+    }
+}
+
+fn has_loop(cues: [Cue; CUE_LIMIT], count: usize) -> bool
     requires { ⌜ count ≤ cueLimit ⌝ }
     ensures { λ r. ⌜ r ≡ anyLoop (slice 0 count cues) ⌝ }
 {
@@ -98,6 +115,14 @@ pub fn any_loop(cues: [Cue; CUE_LIMIT], count: usize) -> bool
     false
 }
 
+// Whether the table has a Loop.
+pub fn any_loop(cues: [Cue; CUE_LIMIT], count: usize) -> bool
+    ensures { λ r. ⌜ r ≡ anyLoop (slice 0 count cues) ⌝ }
+{
+    let most = least(count, CUE_LIMIT);
+    has_loop(cues, most)
+}
+
 // The distance from b to a, or 0.
 fn distance(a: u64, b: u64) -> u64
     ensures { λ r. ⌜ r ≡ a - b ⌝ }
@@ -105,13 +130,13 @@ fn distance(a: u64, b: u64) -> u64
     if b <= a { a - b } else { 0 }
 }
 
-// A cue point; of its index the low 32 bits.
-fn put_point(buf: &mut [u8], at: usize, index: u64, id: u32)
+// A cue point; of its index and its id the low 32 bits.
+fn put_point(buf: &mut [u8], at: usize, index: u64, id: u64)
     requires { ⌜ at + cuePointSize ≤ length (now buf) ⌝ }
     ensures { λ _. ⌜ now (buf .exit) ≡ putAt (now (buf .entry)) at (cueBytes (cuePoint index id)) ⌝ }
 {
     put_u32(buf, at, (index % 4294967296) as u32);
-    put_u32(buf, at + 4, id);
+    put_u32(buf, at + 4, (id % 4294967296) as u32);
 }
 
 // The points and ranges of a part of the table, with ids from this one on.
@@ -124,13 +149,13 @@ fn put_points(
     base: u64,
     id: u32,
 )
-    requires { ⌜ (from ≤ to) × (to ≤ cueLimit) × (id + cueLimit < 2 ^ 32) ⌝ }
+    requires { ⌜ (from ≤ to) × (to ≤ cueLimit) ⌝ }
     requires { ⌜ at + length (pointBytes base id (slice from to cues)) ≤ length (now buf) ⌝ }
     ensures { λ _. ⌜ now (buf .exit) ≡ putAt (now (buf .entry)) at (pointBytes base id (slice from to cues)) ⌝ }
 {
     let mut k = from;
     let mut p = at;
-    let mut n = id;
+    let mut n = id as u64;
     while k < to {
         let cue = cues[k];
         let kind = cue.kind;
@@ -144,8 +169,8 @@ fn put_points(
     }
 }
 
-// The cues that a block takes, up to this one, with their filler: so many are points and ranges.
-pub fn put_taken(
+// The same with their filler: so many are points and ranges.
+fn put_within(
     buf: &mut [u8],
     at: usize,
     cues: [Cue; CUE_LIMIT],
@@ -155,11 +180,33 @@ pub fn put_taken(
     id: u32,
     points: usize,
 )
-    requires { ⌜ (to ≤ cueLimit) × (id + cueLimit < 2 ^ 32) ⌝ }
+    requires { ⌜ to ≤ cueLimit ⌝ }
     requires { ⌜ Taking cues from to points ⌝ }
     requires { ⌜ at + P (cuePointSize * points) ≤ length (now buf) ⌝ }
     ensures { λ _. ⌜ now (buf .exit) ≡ putAt (now (buf .entry)) at (filledBytes base id (slice from to cues)) ⌝ }
 {
     put_points(buf, at, cues, from, to, base, id);
     put_fillers(buf, at + CUE_POINT_SIZE * points, points);
+}
+
+// The cues that a block takes, up to this place, with their filler; where they do not fit wholly, nothing is changed.
+pub fn put_taken(
+    buf: &mut [u8],
+    at: usize,
+    cues: [Cue; CUE_LIMIT],
+    from: usize,
+    to: usize,
+    base: u64,
+    id: u32,
+)
+    ensures { λ _. ⌜ now (buf .exit) ≡ putAt (now (buf .entry)) at (filledBytes base id (slice from to cues)) ⌝ }
+{
+    let most = least(to, CUE_LIMIT);
+    if from < most {
+        let taken = tally(cues, from, most);
+        let size = align(CUE_POINT_SIZE * taken.points);
+        if inside(buf.len(), at, size) {
+            put_within(buf, at, cues, from, most, base, id, taken.points);
+        }
+    }
 }

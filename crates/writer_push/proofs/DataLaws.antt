@@ -5,14 +5,16 @@ use mathlib.Core.List.{List, _++_, append-assoc, append-nil}
 use native.Mathlib.Omega.{arith}
 use borrow.Author.Tests.{eq-eqb, ne-eqb}
 use lib.ListN.{length}
+use lib.Dec.{eqb}
 use Rattle.layout.specs.Lists.{concat}
 use Rattle.layout.specs.Records.{P, padded, sizeOf, blockHeader, blockBytes, dataAfter}
 use Rattle.layout.specs.Puts.{putAt}
 use Rattle.layout.specs.Sizes.{saturated}
 use Rattle.layout.specs.declared.BlockHeader.{BlockHeader}
 use Rattle.layout.proofs.Lengths.{padded-length, data-length}
+use Rattle.layout.proofs.Cases.{by-cases}
 use Rattle.layout.proofs.SizeLaws.{aligned}
-use Rattle.layout.proofs.PutLaws.{put-then}
+use Rattle.layout.proofs.PutLaws.{putAt-out, put-then}
 use Rattle.layout_put_block.specs.HeaderPut.{headerPut}
 use Rattle.layout_put_block.proofs.WrittenLaws.{put-length-32, header-put-is}
 use Rattle.writer.specs.Loading.{dataIn, secondContext, points, pointsOf, dataSize}
@@ -32,23 +34,36 @@ module _ (l x z : List ℕ) (at ch : ℕ) where
   unfolding concat
   mono-put b h e = rw (ne-eqb ch 2 h, append-nil) e
 
-  module _ (h : ch ≡ 2) (long : length x < 9223372036854775808) (room : at + dataSize ch (length x) (length z) ≤ length l)
-      (y : ℕ) (ey : y ≡ saturated (P (length x))) where
-    both : dataSize ch (length x) (length z) ≡ P (length x) + P (length z)
-    unfolding dataSize
-    both = rw (eq-eqb ch 2 h)
+  data-long : length (concat padded (dataIn ch x z)) ≡ dataSize ch (length x) (length z)
+  data-long = data-length (dataIn ch x z) ∙ data-size ch x z
 
+  module _ (long : length x < 9223372036854775808) (y : ℕ) (ey : y ≡ saturated (P (length x))) where
     exact : y ≡ P (length x)
     exact = ey ∙ aligned (length x) (omega arith)
 
-    pub second-place : at + y ≤ length l
-    second-place = omega (arith, both, exact)
+    pub first-out : length l < at + y → l ≡ putAt l at (concat padded (dataIn ch x z))
+    unfolding dataSize
+    first-out h =
+        let most : P (length x) ≤ dataSize ch (length x) (length z) = by-cases (eqb ch 2) (λ q. rw q (omega arith)) (λ q. rw q (omega arith)) in
+        sym (putAt-out l at _ (omega (arith, data-long, exact)))
 
-    pub stereo-put : (b b′ : List ℕ) → b ≡ putAt l at (padded x) → b′ ≡ putAt b (at + y) (padded z) → b′ ≡ putAt l at (concat padded (dataIn ch x z))
-    unfolding concat
-    stereo-put b b′ e f =
-        rw (eq-eqb ch 2 h, append-nil)
-        (put-then (record { size = padded-length x; is = e }) (padded z) (padded-length z) f (ap (λ (m : ℕ). at + m) exact) (omega (arith, both)) .is)
+    module _ (h : ch ≡ 2) (long′ : length z < 9223372036854775808) (y′ : ℕ) (ey′ : y′ ≡ saturated (P (length z))) where
+      both : dataSize ch (length x) (length z) ≡ P (length x) + P (length z)
+      unfolding dataSize
+      both = rw (eq-eqb ch 2 h)
+
+      exact′ : y′ ≡ P (length z)
+      exact′ = ey′ ∙ aligned (length z) (omega arith)
+
+      pub second-out : length l < at + y + y′ → l ≡ putAt l at (concat padded (dataIn ch x z))
+      second-out k = sym (putAt-out l at _ (omega (arith, data-long, both, exact, exact′)))
+
+      pub stereo-put : at + y + y′ ≤ length l → (b b′ : List ℕ) → b ≡ putAt l at (padded x) → b′ ≡ putAt b (at + y) (padded z)
+          → b′ ≡ putAt l at (concat padded (dataIn ch x z))
+      unfolding concat
+      stereo-put room b b′ e f =
+          rw (eq-eqb ch 2 h, append-nil)
+          (put-then (record { size = padded-length x; is = e }) (padded z) (padded-length z) f (ap (λ (m : ℕ). at + m) exact) (omega (arith, exact, exact′)) .is)
 
 -- ---- The whole block
 

@@ -19,7 +19,7 @@ use Rattle.layout.proofs.SizeLaws.{saturated-fits}
 use Rattle.layout.proofs.PutLaws.{putAt-in}
 use Rattle.layout_put_block.specs.HeaderPut.{headerPut}
 use Rattle.writer.specs.Loading.{Push, pushArgs, dataIn, points, anyLoop, dataSize, sizeWith, blockSize, bytesOf, earlyDue, pushOrder, pushRefusal}
-use Rattle.writer.specs.Push.{countTaken, cuesTaken, loopFrom, loopsHere, nextOffset, advanced}
+use Rattle.writer.specs.Push.{countTaken, cuesTaken, loopFrom, loopsHere, advanced}
 use Rattle.writer.specs.WritesAndCuttingRule.{handed}
 use Rattle.writer.specs.Calls.{called, sampleEnd, takenOf, endFor, stateIn, loopDue, loopAfter, nextFor, withStream, afterPush, pushBytes, pushOf, Good}
 use Rattle.writer.specs.declared.ChannelBlock.{ChannelBlock}
@@ -34,7 +34,7 @@ use Rattle.writer_assign_cues.specs.declared.Taken.{Taken}
 use Rattle.writer_assign_cues.specs.Taking.{tallied, filledBytes, Taking}
 use Rattle.writer_assign_cues.proofs.TakeLaws.{taken-slice, taken-count, taken-within, taken-few, taking}
 use Rattle.writer_push_plan.specs.declared.Plan.{Plan}
-use Rattle.writer_push_plan.specs.PushPlan.{Sound, planDue, headerIn, madePlan, planOf}
+use Rattle.writer_push_plan.specs.PushPlan.{planDue, headerIn, madePlan, planOf}
 use Rattle.writer_push_plan.proofs.PlanLaws.{Passing, passing}
 use Rattle.writer_push.proofs.DataLaws.{block-put}
 
@@ -66,9 +66,6 @@ module _ (w : HpsWriter) (p : Push) (lent : List ℕ) (n : ℕ) (is : n ≡ push
       rw (f, ev, es) (rw n, rw append-nil (eb ∙ i ∙ rw zero-add))
 
 -- ---- The order of refusals
-
-pub sound : (w : HpsWriter) → Good w → Sound (w .setup) (w .stream)
-sound w g = record { small = g .small; room = g .room; looped = g .looped }
 
 module _ (w : HpsWriter) (ch : ℕ) (l r : ChannelBlock) (ld rd : List ℕ) (last : Bool) where
   abbrev early : List Due
@@ -186,9 +183,9 @@ module _ {w : HpsWriter} {ch : ℕ} {l r : ChannelBlock} {ld rd : List ℕ} {las
     pub room : (w .stream .offset + plan .size ≤ w .setup .slot) × (plan .size ≤ length lent)
     room = has-room w args (length lent) (plan .size) (sym due-is ∙ z) sized
 
-    loop-is : plan .loopat ≡ loopAfter w args
-    unfolding madePlan loopAfter loopDue
-    loop-is = ap (λ (p : Plan). p .loopat) made ∙ k .loops ∙ rw (asks (passes .short), ends-at (passes .short))
+    loop-is : loopFrom (w .stream .loopat) (w .stream .offset) (loopsHere (w .setup .mode) held (t .asked) end last) ≡ loopAfter w args
+    unfolding loopAfter loopDue
+    loop-is = k .loops ∙ rw (asks (passes .short), ends-at (passes .short))
 
     end-is : w .stream .offset + plan .size ≡ endFor w args
     unfolding endFor
@@ -199,11 +196,18 @@ module _ {w : HpsWriter} {ch : ℕ} {l r : ChannelBlock} {ld rd : List ℕ} {las
     header-is =
         ap (λ (p : Plan). p .header) made
         ∙ ap (λ (n : ℕ). headerIn (t .points) ch l r (length ld) (length rd) n)
-        (ap (λ (q : Plan). nextOffset last (q .loopat) (w .stream .offset + q .size)) (sym made) ∙ rw (loop-is, end-is))
+        (rw (loop-is, sym totals, end-is))
 
-    pub after-is : withStream w (advanced (w .stream) (t .to) (t .points) end (plan .size) (plan .loopat) l r last) ≡ afterPush w args
+    pub advances : plan .after ≡ advanced (w .stream) (t .to) (t .points) end (dataAfter (t .points) + dataSize ch (length ld) (length rd))
+        (loopFrom (w .stream .loopat) (w .stream .offset) (loopsHere (w .setup .mode) held (t .asked) end last)) l r last
+    unfolding madePlan
+    advances = ap (λ (p : Plan). p .after) made
+
+    pub after-is : withStream w (plan .after) ≡ afterPush w args
     unfolding afterPush
-    after-is = rw (next-is (passes .short), counted (passes .short), ends-at (passes .short), sized, loop-is)
+    after-is =
+        ap (withStream w) advances
+        ∙ rw (loop-is, sym totals, next-is (passes .short), counted (passes .short), ends-at (passes .short), sized)
 
     pub bytes-are : (b₁ b₂ b₃ : List ℕ) → b₁ ≡ putAt lent 0 (headerPut (plan .header))
         → b₂ ≡ putAt b₁ 32 (filledBytes (w .stream .base) (w .stream .id) (slice (w .stream .next) (t .to) (w .table .cues)))

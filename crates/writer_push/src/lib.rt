@@ -1,4 +1,5 @@
 // Push: the block's bytes by its plan, and the record afterwards.
+use layout::fields::inside;
 use layout::limits::BLOCK_HEADER_SIZE;
 use layout_put_block::put_header;
 use layout_put_block::put_padded;
@@ -11,26 +12,33 @@ use writer::Reply;
 use writer_assign_cues::any_loop;
 use writer_assign_cues::put_taken;
 use writer_assign_cues::take;
-use writer_push_plan::advance;
 use writer_push_plan::block_end;
 use writer_push_plan::plan_push;
 ghost use mathlib.Core.Path.{_≡_};
-ghost use Prim.Native.Nat.{_+_, _≤_};
+ghost use Prim.Native.Nat.{_+_};
 ghost use lib.ListN.{length};
 ghost use Rattle.layout.specs.Lists.{concat};
 ghost use Rattle.layout.specs.Records.{padded};
 ghost use Rattle.layout.specs.Puts.{putAt};
 ghost use Rattle.writer.specs.Calls.{called, pushOf, Good};
-ghost use Rattle.writer.specs.Loading.{pushArgs, dataIn, dataSize};
+ghost use Rattle.writer.specs.Loading.{pushArgs, dataIn};
 
-// Each channel's data, padded.
+// Each channel's data, padded; where it does not fit wholly, nothing is changed.
 pub fn put_data(buf: &mut [u8], at: usize, channels: usize, left: &[u8], right: &[u8])
-    requires { ⌜ at + dataSize channels (length (now left)) (length (now right)) ≤ length (now buf) ⌝ }
     ensures { λ _. ⌜ now (buf .exit) ≡ putAt (now (buf .entry)) at (concat padded (dataIn channels (now (left .entry)) (now (right .entry)))) ⌝ }
 {
-    put_padded(buf, at, left);
-    if channels == 2 {
-        put_padded(buf, at + align(left.len()), right);
+    let first = align(left.len());
+    if inside(buf.len(), at, first) {
+        if channels != 2 {
+            put_padded(buf, at, left);
+            return;
+        }
+        let next = at + first;
+        let second = align(right.len());
+        if inside(buf.len(), next, second) {
+            put_padded(buf, at, left);
+            put_padded(buf, next, right);
+        }
     }
 }
 
@@ -96,11 +104,9 @@ pub fn push(
         taken.to,
         s.base,
         s.id,
-        taken.points,
     );
     put_data(lent, plan.start, channels, left_data, right_data);
-    let loopat = plan.loopat;
-    let stream = advance(s, taken, end, plan.size, loopat, left, right, last);
+    let stream = plan.after;
     Called {
         reply: Reply::OneWrite(Place {
             offset: s.offset,

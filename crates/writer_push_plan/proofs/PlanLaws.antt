@@ -3,16 +3,18 @@ use Prim.Native.Nat.{ℕ, _+_, _-_, _*_, _<_, _≤_}
 use mathlib.Core.Path.{_≡_, ap, sym, _∙_}
 use mathlib.Core.Bool.{Bool, true, false, not}
 use native.Mathlib.Omega.{arith}
-use borrow.Author.Tests.{ltb-false, leb-false, eq-eqb, ne-eqb, eqb-true, not-false}
+use borrow.Author.Tests.{lt-ltb, ltb-false, leb-false, eq-eqb, ne-eqb, eqb-true, not-false}
 use lib.Dec.{ltb, eqb, lit<}
 use Rattle.layout.specs.Choice.{_and_}
 use Rattle.layout.specs.Records.{P, adpcmBytes, adpcmSamples, dataAfter, blockHeaderSize}
-use Rattle.layout.specs.Refusals.{firstDue, cueLimit, blockLimit, lengthLimit, monoLimit}
+use Rattle.layout.specs.Refusals.{firstDue, slotLimit, blockLimit, lengthLimit, monoLimit}
 use Rattle.layout.specs.Sizes.{usizeMax, saturated}
 use Rattle.layout.specs.declared.FrameContext.{FrameContext}
 use Rattle.layout.proofs.SizeLaws.{aligned, saturated-fits, saturated-over}
 use Rattle.layout.proofs.Cases.{by-cases, apart, or-false, none-due}
-use Rattle.writer.specs.Push.{loopsHere, loopFrom, nextOffset}
+use Rattle.writer.specs.Calls.{recordOf, Good}
+use Rattle.layout.proofs.Lengths.{P-above}
+use Rattle.writer.specs.Push.{loopsHere, loopFrom, nextOffset, advanced}
 use Rattle.writer.specs.declared.Looping.{Looping}
 use Rattle.writer.specs.declared.Looping.the-variants.{Disabled, Enabled, Auto}
 use Rattle.writer.specs.declared.LoopAt.{LoopAt}
@@ -23,7 +25,7 @@ use Rattle.writer.specs.Loading.{dataSize, secondContext, stateDue, rateDue, le
 use Rattle.writer_push_refusal.proofs.DecideLaws.{group-yes, group-no}
 use Rattle.writer_push_refusal.proofs.GroupLaws.{early-numbered}
 use Rattle.writer_assign_cues.specs.declared.Taken.{Taken}
-use Rattle.writer_push_plan.specs.PushPlan.{planDue, headerIn, noPlan, madePlan, planOf, Sound}
+use Rattle.writer_push_plan.specs.PushPlan.{planDue, headerIn, noPlan, madePlan, planOf}
 use Rattle.writer.specs.declared.Setup.{Setup}
 use Rattle.writer.specs.declared.Stream.{Stream}
 use Rattle.writer_push_plan.specs.declared.Plan.{Plan}
@@ -94,14 +96,14 @@ size-small ch l r x h k e =
     (λ q. let b = k (eqb-true ch 2 q) in let f : x ≡ P l + P r = e ∙ rw q in omega arith)
     (λ q. let f : x ≡ P l = e ∙ rw q in omega arith)
 
-pub block-small : (k d x : ℕ) → k ≤ cueLimit → d ≤ lengthLimit → x ≡ dataAfter k + d → x ≤ blockHeaderSize + lengthLimit + 8 * cueLimit
+pub block-small : (k d x : ℕ) → k ≤ slotLimit → d ≤ lengthLimit → x ≡ dataAfter k + d → x ≤ blockHeaderSize + lengthLimit + 8 * slotLimit
 unfolding P
 block-small k d x h g e = omega arith
 
-pub cues-end : (k x : ℕ) → k ≤ cueLimit → x ≡ saturated (P (8 * k)) → x ≡ P (8 * k)
+pub cues-end : (k x : ℕ) → k ≤ slotLimit → x ≡ saturated (P (8 * k)) → x ≡ P (8 * k)
 cues-end k x h e = e ∙ aligned (8 * k) (omega arith)
 
-pub filled-small : (k x : ℕ) → k ≤ cueLimit → x ≡ saturated (P (8 * k)) → x ≤ 8 * cueLimit
+pub filled-small : (k x : ℕ) → k ≤ slotLimit → x ≡ saturated (P (8 * k)) → x ≤ 8 * slotLimit
 unfolding P
 filled-small k x h e = let p = cues-end k x h e in omega arith
 
@@ -153,7 +155,7 @@ passing n last own blocks f g ch l r lb rb is z =
 
 -- ---- The loop block after a block of the stream
 
-pub loop-near : (u : Setup) (s : Stream) → Sound u s → (here : Bool) (l : LoopAt) → l ≡ loopFrom (s .loopat) (s .offset) here → (n : ℕ) → l ≡ At n → n ≤ s .offset
+pub loop-near : (u : Setup) (s : Stream) → Good (recordOf u s) → (here : Bool) (l : LoopAt) → l ≡ loopFrom (s .loopat) (s .offset) here → (n : ℕ) → l ≡ At n → n ≤ s .offset
 loop-near u s g here l is n q = looped-after (s .loopat) here (s .offset) (s .offset) (g .looped) (omega arith) n (sym is ∙ q)
 
 -- ---- The plan
@@ -167,29 +169,37 @@ fits-room slot offset size lent m is z =
     (ltb-false slot (offset + size) (h .0), ltb-false lent size (g .0))
 
 module _ (u : Setup) (s : Stream) (t : Taken) (held : Bool) (end ch : ℕ) (l r : ChannelBlock) (lb rb : ℕ) (last : Bool) (lent : ℕ) where
-  refused-plan : (n : ℕ) → n ≡ planDue u s (t .points) ch l r lb rb lent → (n ≡ 0 → ⊥) → noPlan n ≡ planOf u s t held end ch l r lb rb last lent
+  refused-plan : (n : ℕ) → n ≡ planDue u s (t .points) ch l r lb rb lent → (n ≡ 0 → ⊥) → noPlan n s ≡ planOf u s t held end ch l r lb rb last lent
   unfolding planOf
   refused-plan n is h = rw (ne-eqb (planDue u s (t .points) ch l r lb rb lent) 0 (λ z. h (is ∙ z)), ← is)
 
   module _ (n : ℕ) (is : n ≡ firstDue (earlyDue (s .last) (u .channels) (s .blocks) (s .left) (s .right) ch l r lb rb)) where
-    pub plan-early : (n ≡ 0 → ⊥) → (p : Plan) → p ≡ noPlan n → p ≡ planOf u s t held end ch l r lb rb last lent
+    pub plan-early : (n ≡ 0 → ⊥) → (p : Plan) → p ≡ noPlan n s → p ≡ planOf u s t held end ch l r lb rb last lent
     unfolding planDue
     plan-early h p e = e ∙ refused-plan n (group-yes n _ _ is h) h
+
+    -- more points and ranges than the slot has bytes
+    pub plan-many : n ≡ 0 → u .slot < 8 * t .points → (p : Plan) → p ≡ noPlan 24 s → p ≡ planOf u s t held end ch l r lb rb last lent
+    unfolding planDue roomDue firstDue
+    plan-many none h p e =
+        let over : u .slot < s .offset + (dataAfter (t .points) + dataSize ch lb rb) = omega (arith, P-above (8 * t .points)) in
+        e ∙ refused-plan 24 (group-no n 24 _ _ (early-numbered _ _ _ _ _ _ _ _ _ _) is none (rw (lt-ltb (u .slot) _ over))) (λ z. omega arith)
 
     module _ (none : n ≡ 0) (m size : ℕ) (sized : size ≡ dataAfter (t .points) + dataSize ch lb rb) (room : m ≡ firstDue (roomDue (u .slot) (s .offset) size lent)) where
       room-is : m ≡ planDue u s (t .points) ch l r lb rb lent
       unfolding planDue
       room-is = group-no n m _ _ (early-numbered _ _ _ _ _ _ _ _ _ _) is none (room ∙ ap (λ (k : ℕ). firstDue (roomDue (u .slot) (s .offset) k lent)) sized)
 
-      pub plan-room : (m ≡ 0 → ⊥) → (p : Plan) → p ≡ noPlan m → p ≡ planOf u s t held end ch l r lb rb last lent
+      pub plan-room : (m ≡ 0 → ⊥) → (p : Plan) → p ≡ noPlan m s → p ≡ planOf u s t held end ch l r lb rb last lent
       plan-room h p e = e ∙ refused-plan m room-is h
 
       module _ (fits : m ≡ 0) (here : Bool) (loops : here ≡ loopsHere (u .mode) held (t .asked) end last)
           (loopat : LoopAt) (looped : loopat ≡ loopFrom (s .loopat) (s .offset) here) where
-        pub plan-made : (bytes start next : ℕ) (other : FrameContext) → bytes ≡ dataSize ch lb rb → start ≡ dataAfter (t .points)
+        pub plan-made : (bytes start next : ℕ) (other : FrameContext) (after : Stream) → bytes ≡ dataSize ch lb rb → start ≡ dataAfter (t .points)
             → next ≡ nextOffset last loopat (s .offset + size) → other ≡ secondContext ch r
-            → record { due = 0; header = record { size = bytes; «end_address» = l .length - 1; «next_offset» = next; left = l .context; right = other; cues = t .points }; start = start; size = size; loopat = loopat }
+            → after ≡ advanced s (t .to) (t .points) end size loopat l r last
+            → record { due = 0; header = record { size = bytes; «end_address» = l .length - 1; «next_offset» = next; left = l .context; right = other; cues = t .points }; start = start; size = size; after = after }
             ≡ planOf u s t held end ch l r lb rb last lent
         unfolding planOf madePlan headerIn
-        plan-made bytes start next other ed es en eo =
-            rw (eq-eqb (planDue u s (t .points) ch l r lb rb lent) 0 (sym room-is ∙ fits), ed, es, en, eo, looped, loops, sized)
+        plan-made bytes start next other after ed es en eo ea =
+            rw (eq-eqb (planDue u s (t .points) ch l r lb rb lent) 0 (sym room-is ∙ fits), ed, es, en, eo, ea, looped, loops, sized)

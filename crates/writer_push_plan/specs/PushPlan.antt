@@ -1,27 +1,19 @@
 -- The plan of a push: what its code works out of numbers alone, before it writes a byte.
-use Prim.Native.Nat.{ℕ, _+_, _-_, _≤_}
-use mathlib.Core.Path.{_≡_}
+use Prim.Native.Nat.{ℕ, _+_, _-_}
 use mathlib.Core.Bool.{Bool}
 use mathlib.Core.List.{_++_}
 use lib.Dec.{eqb}
 use Rattle.layout.specs.Choice.{pick}
 use Rattle.layout.specs.Records.{zeroContext, dataAfter}
-use Rattle.layout.specs.Refusals.{firstDue, slotLimit}
+use Rattle.layout.specs.Refusals.{firstDue}
 use Rattle.layout.specs.declared.BlockHeader.{BlockHeader}
 use Rattle.writer.specs.Loading.{dataSize, secondContext, earlyDue, roomDue}
-use Rattle.writer.specs.Push.{loopsHere, loopFrom, nextOffset}
+use Rattle.writer.specs.Push.{loopsHere, loopFrom, nextOffset, advanced}
 use Rattle.writer.specs.declared.ChannelBlock.{ChannelBlock}
-use Rattle.writer.specs.declared.LoopAt.the-variants.{Nowhere, At}
 use Rattle.writer.specs.declared.Setup.{Setup}
 use Rattle.writer.specs.declared.Stream.{Stream}
 use Rattle.writer_assign_cues.specs.declared.Taken.{Taken}
 use Rattle.writer_push_plan.specs.declared.Plan.{Plan}
-
--- What a plan asks of the record: the numbers that it adds up are small.
-pub record Sound (u : Setup) (s : Stream) : Type 0 where
-  pub small : u .slot ≤ slotLimit
-  pub room : s .offset ≤ u .slot
-  pub looped : (n : ℕ) → s .loopat ≡ At n → n ≤ s .offset
 
 -- The first number due of a push whose block has so many points and ranges.
 unfoldable pub planDue : Setup → Stream → (points channels : ℕ) (left right : ChannelBlock) (leftBytes rightBytes lent : ℕ) → ℕ
@@ -41,15 +33,15 @@ headerIn k ch l r lb rb next =
       cues = k;
     }
 
--- Refused with this number.
-abbrev pub noPlan : ℕ → Plan
-noPlan n =
+-- Refused with this number: the stream stays.
+abbrev pub noPlan : ℕ → Stream → Plan
+noPlan n s =
     record {
       due = n;
       header = record { size = 0; «end_address» = 0; «next_offset» = 0; left = zeroContext; right = zeroContext; cues = 0 };
       start = 0;
       size = 0;
-      loopat = Nowhere;
+      after = s;
     }
 
 -- A block that takes these cues.
@@ -62,11 +54,11 @@ madePlan u s t held end ch l r lb rb last =
       header = headerIn (t .points) ch l r lb rb (nextOffset last loopat (s .offset + size));
       start = dataAfter (t .points);
       size = size;
-      loopat = loopat;
+      after = advanced s (t .to) (t .points) end size loopat l r last;
     }
 
 -- The plan: refused with the first number due, or made.
 unfoldable pub planOf : Setup → Stream → Taken → (held : Bool) (end channels : ℕ) (left right : ChannelBlock) (leftBytes rightBytes : ℕ) (last : Bool) (lent : ℕ) → Plan
 planOf u s t held end ch l r lb rb last lent =
     let n = planDue u s (t .points) ch l r lb rb lent in
-    pick (eqb n 0) (madePlan u s t held end ch l r lb rb last) (noPlan n)
+    pick (eqb n 0) (madePlan u s t held end ch l r lb rb last) (noPlan n s)

@@ -3,6 +3,7 @@ use layout::BlockHeader;
 use layout::FrameContext;
 use layout::limits::BLOCK_HEADER_SIZE;
 use layout::limits::CUE_POINT_SIZE;
+use layout::limits::SLOT_LIMIT;
 use layout_sizes::adpcm_samples;
 use layout_sizes::align;
 use writer::ChannelBlock;
@@ -18,21 +19,22 @@ ghost use Prim.Native.Nat.{ℕ, _+_, _*_, _<_, _≤_, _^_};
 ghost use Rattle.layout.specs.Sizes.{saturated};
 ghost use Rattle.layout.specs.Records.{adpcmSamples, dataAfter};
 ghost use Rattle.writer.specs.Loading.{dataSize, secondContext};
+ghost use Rattle.writer.specs.Calls.{recordOf, Good};
 ghost use Rattle.writer.specs.Push.{loopsHere, loopFrom, nextOffset, advanced};
-ghost use Rattle.writer_push_plan.specs.PushPlan.{Sound, noPlan, planOf};
-ghost use Rattle.layout.specs.Refusals.{cueLimit, monoLimit, blockLimit};
+ghost use Rattle.writer_push_plan.specs.PushPlan.{noPlan, planOf};
+ghost use Rattle.layout.specs.Refusals.{slotLimit, monoLimit, blockLimit};
 ghost use lib.Dec.{eqb};
 ghost use Rattle.layout.specs.Choice.{pick};
 
 const END_BLOCK_OFFSET: u32 = 4294967295;
 
-// The number due, 0 where none is; then the block's header, where its data starts, its size, and the loop block's offset after it.
+// The number due, 0 where none is; then the block's header, where its data starts, its size, and the stream after it.
 pub struct Plan {
     pub due: u32,
     pub header: BlockHeader,
     pub start: usize,
     pub size: usize,
-    pub loopat: LoopAt,
+    pub after: Stream,
 }
 
 // The sample that a block of this length ends before, or u64::MAX where that is larger.
@@ -61,7 +63,7 @@ fn data_size(channels: usize, left: usize, right: usize) -> usize
 
 // Where the data starts: after the header and the filled cues.
 fn data_start(points: usize) -> usize
-    requires { ⌜ points ≤ cueLimit ⌝ }
+    requires { ⌜ points ≤ slotLimit ⌝ }
     ensures { λ r. ⌜ r ≡ dataAfter points ⌝ }
 {
     BLOCK_HEADER_SIZE + align(CUE_POINT_SIZE * points)
@@ -132,8 +134,8 @@ fn next_offset(last: bool, loopat: LoopAt, end: usize) -> u32
     }
 }
 
-fn no_plan(due: u32) -> Plan
-    ensures { λ p. ⌜ p ≡ noPlan due ⌝ }
+fn no_plan(due: u32, s: Stream) -> Plan
+    ensures { λ p. ⌜ p ≡ noPlan due s ⌝ }
 {
     let context = FrameContext {
         predictor_and_scale: 0,
@@ -152,7 +154,46 @@ fn no_plan(due: u32) -> Plan
         },
         start: 0,
         size: 0,
-        loopat: LoopAt::Nowhere,
+        after: s,
+    }
+}
+
+// The first block's side.
+fn first_side(blocks: usize, kept: ChannelBlock, side: ChannelBlock) -> ChannelBlock
+    ensures { λ r. ⌜ r ≡ pick (eqb blocks 0) side kept ⌝ }
+{
+    if blocks == 0 { side } else { kept }
+}
+
+// The stream after a block of this size that takes these cues, ends before this sample and leaves this loop block.
+fn advance(
+    s: Stream,
+    taken: Taken,
+    end: u64,
+    size: usize,
+    loopat: LoopAt,
+    left: ChannelBlock,
+    right: ChannelBlock,
+    last: bool,
+) -> Stream
+    requires { ⌜ (s .id + taken .points < 2 ^ 32) × (s .blocks < blockLimit) × (taken .points ≤ slotLimit) × (s .offset + size < 2 ^ 64) × (s .sum + left .length < 2 ^ 64) ⌝ }
+    ensures { λ r. ⌜ r ≡ advanced s (taken .to) (taken .points) end size loopat left right last ⌝ }
+{
+    let first = s.left;
+    let second = s.right;
+    let l = first_side(s.blocks, first, left);
+    let r = first_side(s.blocks, second, right);
+    Stream {
+        next: taken.to,
+        id: s.id + taken.points as u32,
+        base: end,
+        offset: s.offset + size,
+        loopat,
+        blocks: s.blocks + 1,
+        sum: s.sum + left.length as u64,
+        left: l,
+        right: r,
+        last,
     }
 }
 
@@ -171,7 +212,7 @@ pub fn plan_push(
     last: bool,
     lent: usize,
 ) -> Plan
-    requires { ⌜ Sound setup s × (taken .points ≤ cueLimit) ⌝ }
+    requires { ⌜ Good (recordOf setup s) ⌝ }
     ensures { λ p. ⌜ p ≡ planOf setup s taken held end channels left right «left_bytes» «right_bytes» last lent ⌝ }
 {
     let first = s.left;
@@ -189,14 +230,18 @@ pub fn plan_push(
         right_bytes,
     );
     if early != 0 {
-        return no_plan(early);
+        return no_plan(early, s);
+    }
+    // More points and ranges than a slot has bytes.
+    if taken.points > SLOT_LIMIT {
+        return no_plan(24, s);
     }
     let data = data_size(channels, left_bytes, right_bytes);
     let start = data_start(taken.points);
     let size = start + data;
     let room = room_due(setup.slot, s.offset, size, lent);
     if room != 0 {
-        return no_plan(room);
+        return no_plan(room, s);
     }
     let mode = setup.mode;
     let former = s.loopat;
@@ -208,6 +253,7 @@ pub fn plan_push(
     let padded = data as u32;
     let last_address = left.length - 1;
     let end_address = last_address as u32;
+    let after = advance(s, taken, end, size, loopat, left, right, last);
     Plan {
         due: 0,
         header: BlockHeader {
@@ -220,45 +266,6 @@ pub fn plan_push(
         },
         start,
         size,
-        loopat,
-    }
-}
-
-// The first block's side.
-fn first_side(blocks: usize, kept: ChannelBlock, side: ChannelBlock) -> ChannelBlock
-    ensures { λ r. ⌜ r ≡ pick (eqb blocks 0) side kept ⌝ }
-{
-    if blocks == 0 { side } else { kept }
-}
-
-// The stream after a block of this size that takes these cues, ends before this sample and leaves this loop block.
-pub fn advance(
-    s: Stream,
-    taken: Taken,
-    end: u64,
-    size: usize,
-    loopat: LoopAt,
-    left: ChannelBlock,
-    right: ChannelBlock,
-    last: bool,
-) -> Stream
-    requires { ⌜ (s .id + taken .points < 2 ^ 32) × (s .blocks < blockLimit) × (taken .points ≤ cueLimit) × (s .offset + size < 2 ^ 64) × (s .sum + left .length < 2 ^ 64) ⌝ }
-    ensures { λ r. ⌜ r ≡ advanced s (taken .to) (taken .points) end size loopat left right last ⌝ }
-{
-    let first = s.left;
-    let second = s.right;
-    let l = first_side(s.blocks, first, left);
-    let r = first_side(s.blocks, second, right);
-    Stream {
-        next: taken.to,
-        id: s.id + taken.points as u32,
-        base: end,
-        offset: s.offset + size,
-        loopat,
-        blocks: s.blocks + 1,
-        sum: s.sum + left.length as u64,
-        left: l,
-        right: r,
-        last,
+        after,
     }
 }

@@ -9,8 +9,7 @@ use Rattle.writer.specs.Loading.{Push, anyLoop, pushArgs}
 use Rattle.writer.specs.Calls.{pushOf}
 use Rattle.c_record.specs.Fields.{setupOf, streamOf, fieldsWith}
 use Rattle.c_record.specs.declared.Fields.{Fields}
-use Rattle.writer.specs.declared.Stream.{Stream}
-use Rattle.writer.specs.Push.{loopsHere, loopFrom, advanced}
+use Rattle.writer.specs.Push.{loopsHere, loopFrom}
 use Rattle.layout.specs.Sizes.{saturated}
 use Rattle.layout.specs.Records.{adpcmSamples}
 use Rattle.writer_push_plan.specs.PushPlan.{planOf}
@@ -19,7 +18,8 @@ use Rattle.writer_assign_cues.specs.Taking.{filledBytes}
 use Rattle.c_record.specs.KeptSides.{tableIn, cuesAt}
 use Rattle.c_record.specs.KeptWriter.{streamIn, writerIn, takenIn, heldIn}
 use Rattle.c_record.proofs.KeptLaws.{kept-good, loop-same}
-use Rattle.writer_push.proofs.PushLaws.{push-refused, push-accepted, sound, to-within, few-points, are-taken, Worked, due-is, passes, starts, totals, sized, room, bytes-are}
+use Rattle.writer.proofs.GoodLaws.{parts-good}
+use Rattle.writer_push.proofs.PushLaws.{push-refused, push-accepted, to-within, are-taken, Worked, due-is, totals, sized, room, bytes-are}
 use Rattle.c_loading.specs.KeptLoading.{callIn}
 use Rattle.writer.specs.declared.Called.{Called}
 use Rattle.c_loading.proofs.CallLaws.{leaves, no-record, on-record}
@@ -42,7 +42,6 @@ use Rattle.c_record.proofs.loader.stream_in.Reads as stream-in-reads
 use Rattle.c_record.proofs.loader.stream_of.Reads as stream-of-reads
 use Rattle.c_record.proofs.loader.take_kept.Reads as take-kept-reads
 use Rattle.c_record.proofs.loader.with_stream.Reads as with-stream-reads
-use Rattle.writer_push_plan.proofs.advance.Reads as advance-reads
 use Rattle.writer_push_plan.proofs.block_end.Reads as block-end-reads
 use Rattle.writer_push_plan.proofs.plan_push.Reads as plan-push-reads
 use Rattle.layout_put_block.proofs.put_header.Reads as put-header-reads
@@ -181,7 +180,7 @@ plan-push-requires c κs =
     let e = ended (c .before .before .before .before) in
     let k = start e .args .kept .now in
     let is = parts (c .before .before .before .before .before) in
-    (rw (is .0, is .1) (sound (writerIn k) (kept-good k)), few-points (writerIn k) (kept-good k) _ _ _ (takes (c .before .before)))
+    rw (is .0, is .1) (parts-good (writerIn k) (kept-good k))
 
 refused-requires-2 : tie.Need-refused-requires-2
 refused-requires-2 c κs = search needs
@@ -216,28 +215,7 @@ put-taken-kept-requires c κs =
     )
 
 put-data-requires : tie.Need-put-data-requires
-put-data-requires c κs =
-    let d = c .before .before .before .before .before .before .before .before .before .before .before in
-    let w = worked (d .before .before) in
-    omega (arith, starts w (d .if2 .left), totals w (d .if2 .left), room w (d .if2 .left) .1)
-
-advance-requires : tie.Need-advance-requires
-advance-requires c κs =
-    let d = c .before .before .before .before .before .before .before .before .before .before .before .before .before .before in
-    let p = d .before .before in
-    let e = planned p in
-    let k = start e .args .kept .now in
-    let g = kept-good k in
-    let w = worked p in
-    let h = passes w (d .if2 .left) in
-    let few = few-points (writerIn k) g _ _ _ (w .takes) in
-    rw (parts (p .before .before .before .before .before .before) .1) (
-      omega (arith, g .named, g .placed, g .few, few),
-      h .few,
-      few,
-      omega (arith, room w (d .if2 .left) .0, g .small),
-      omega (arith, h .short, g .sums, g .many),
-    )
+put-data-requires c κs = search needs
 
 with-stream-requires : tie.Need-with-stream-requires
 with-stream-requires c κs = search needs
@@ -271,13 +249,8 @@ returns-3 c =
     let b = bytes-are w z _ _ _ (c .before .before .before .before .before .before .before .before .before .before .before .before .before .before .before .before .before .put-header .ensures) put (c .before .before .before .before .before .before .before .before .put-data .ensures) in
     let q = push-accepted (writerIn k) (pushed s) (s .args .lent .now) _ (due-is w) z _ _ _ refl (sized w z) (room w z .1) b in
     let r = on-record k (pushOf (writerIn k) (pushed s) (s .args .lent .now)) (some e) _ (ap (λ (x : Called). callIn (x .reply)) (q .0)) in
-    let t = p .before .before .before .take-kept .result in
-    let end = p .before .before .before .before .before .block-end .result in
-    let is = parts (p .before .before .before .before .before .before) .1 in
-    let next : Fields → Stream → Fields = λ f m. fieldsWith f (advanced m (t .to) (t .points) end (p .plan-push .result .size) (p .plan-push .result .loopat) (s .args .left) (s .args .right) (s .args .last)) in
     let after = c .before .before .put-pushed .ensures
-    ∙ ap (λ (m : Fields). putAt k 0 (pushedBytes m))
-    (c .before .before .before .before .with-stream .ensures ∙ ap (fieldsWith (e .before .before .stream-in .result)) (c .before .before .before .before .before .advance .ensures) ∙ λ i. next (stream e i) (is i)) in
+    ∙ ap (λ (m : Fields). putAt k 0 (pushedBytes m)) (c .before .before .before .before .with-stream .ensures ∙ ap (λ (m : Fields). fieldsWith m (p .plan-push .result .after)) (stream e)) in
     let long : streamIn k .channels < 18446744073709551616 = omega (arith, channels e, ap (λ (m : Fields). m .channels) (stream e)) in
     let stays = push-stream k (some e) w z (left-fits s) (right-fits s) long in
     (ap (λ (m : Fields). record { number = 0; offset = m .offset; length = p .plan-push .result .size }) (stream e) ∙ r, q .1, after ∙ ap (λ (m : Fields). putAt k 0 (pushedBytes m)) stays, ap writerIn after ∙ push-after k (some e) w z (left-fits s) (right-fits s) long)
@@ -302,7 +275,6 @@ push-kept-spec =
     put-header-requires
     put-taken-kept-requires
     put-data-requires
-    advance-requires
     with-stream-requires
     put-pushed-requires
     same-length-3

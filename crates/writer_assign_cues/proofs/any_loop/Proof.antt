@@ -1,61 +1,32 @@
-use Prim.Native.Nat.{_-_, _≤_}
-use mathlib.Core.Path.{_≡_, refl}
-use lib.Seq.{slice}
-use Rattle.writer.specs.Loading.{anyLoop}
+use mathlib.Core.Path.{_≡_, ap, _∙_}
 use native.Mathlib.Omega.{arith}
+use lib.ListN.{length}
+use Rattle.layout.specs.Refusals.{cueLimit}
+use Rattle.writer.specs.Loading.{anyLoop}
+use Rattle.writer.specs.declared.Cue.{Cue}
+use mathlib.Core.List.{List}
+use Rattle.writer_assign_cues.proofs.TakeLaws.{same-part}
 use borrow.Author.Needs.{needs}
-use Rattle.writer_assign_cues.proofs.TakeLaws.{loop-found, loop-not, no-loop}
 use Rattle.writer_assign_cues.proofs.any_loop.Statement.{statement}
 use Rattle.writer_assign_cues.proofs.any_loop.Tie as tie
 use Rattle.writer_assign_cues.proofs.any_loop.Reads as reads
 use Rattle.writer_assign_cues.proofs.any_loop.Lts as lts
-use Rattle.writer_assign_cues.proofs.loops.Reads as loops-reads
+use Rattle.layout.proofs.least.Reads as least-reads
+use Rattle.writer_assign_cues.proofs.has_loop.Reads as has-loop-reads
 
-abbrev Inv-loop : tie.InvT-loop
-Inv-loop count cues k₀ k = (k ≤ count) × (anyLoop (slice 0 count cues) ≡ anyLoop (slice k count cues))
+table : (s : tie.Start) → length (s .args .cues) ≡ cueLimit
+table s = search needs
 
-abbrev μ-loop : tie.MeasureT-loop
-μ-loop count cues k₀ k = count - k
+least-requires : tie.Need-least-requires
+least-requires c κs = search needs
 
-loop-holds : tie.Need-loop-holds Inv-loop μ-loop
-loop-holds c = (omega arith, refl)
+has-loop-requires : tie.Need-has-loop-requires
+has-loop-requires c κs = omega (arith, c .least .ensures)
 
-mul-cue : tie.Need-mul-cue Inv-loop μ-loop
-mul-cue c = omega arith
-
-array-copy-out-cue : tie.Need-array-copy-out-cue Inv-loop μ-loop
-array-copy-out-cue c = omega arith
-
-loops-requires : tie.Need-loops-requires Inv-loop μ-loop
-loops-requires c κs = search needs
-
-returns : tie.Need-returns Inv-loop μ-loop
-returns c = search (loop-found, needs)
-
-add-k : tie.Need-add-k Inv-loop μ-loop
-add-k c = omega arith
-
-loop-less : tie.Need-loop-less Inv-loop μ-loop
-loop-less c = omega arith
-
-loop-again : tie.Need-loop-again Inv-loop μ-loop
-loop-again c = (omega arith, search (loop-not, needs))
-
-returns-2 : tie.Need-returns-2 Inv-loop μ-loop
-returns-2 c = search (no-loop, needs)
+returns : tie.Need-returns
+returns c =
+    let s = c .before .before in
+    c .has-loop .ensures ∙ ap (λ (l : List Cue). anyLoop l) (same-part (s .args .cues) (s .args .count) _ (table s) (c .before .least .ensures) 0)
 
 pub any-loop-spec : {M : Type 1} → statement M
-any-loop-spec =
-    tie.close
-    (tie.spec
-    Inv-loop
-    μ-loop
-    loop-holds
-    mul-cue
-    array-copy-out-cue
-    loops-requires
-    returns
-    add-k
-    loop-less
-    loop-again
-    returns-2)
+any-loop-spec = tie.close (tie.spec least-requires has-loop-requires returns)

@@ -15,6 +15,9 @@ put-u32-requires c κs = search needs
 add-put-u32 : tie.Need-add-put-u32
 add-put-u32 c = search needs
 
+cast-put-u32-2 : tie.Need-cast-put-u32-2
+cast-put-u32-2 c = search needs
+
 put-u32-requires-2 : tie.Need-put-u32-requires-2
 put-u32-requires-2 c κs = search needs
 
@@ -27,4 +30,4 @@ returns c = search point-put
 pub put-point-spec : {M : Type 1} → statement M
 put-point-spec =
     tie.close
-    (tie.spec cast-put-u32 put-u32-requires add-put-u32 put-u32-requires-2 same-length returns)
+    (tie.spec cast-put-u32 put-u32-requires add-put-u32 cast-put-u32-2 put-u32-requires-2 same-length returns)

@@ -1,27 +1,34 @@
-use Rattle.writer_assign_cues.proofs.TakeLaws.{all-taken, some-taken}
+use mathlib.Core.Path.{_≡_}
 use native.Mathlib.Omega.{arith}
+use lib.ListN.{length}
+use Rattle.layout.specs.Refusals.{cueLimit}
+use Rattle.writer_assign_cues.proofs.TakeLaws.{same-taken, no-cue-left}
 use borrow.Author.Needs.{needs}
 use Rattle.writer_assign_cues.proofs.take.Statement.{statement}
 use Rattle.writer_assign_cues.proofs.take.Tie as tie
 use Rattle.writer_assign_cues.proofs.take.Reads as reads
 use Rattle.writer_assign_cues.proofs.take.Lts as lts
-use Rattle.writer_assign_cues.proofs.below.Reads as below-reads
-use Rattle.writer_assign_cues.proofs.tally.Reads as tally-reads
+use Rattle.layout.proofs.least.Reads as least-reads
+use Rattle.writer_assign_cues.proofs.take_within.Reads as take-within-reads
 
-tally-requires : tie.Need-tally-requires
-tally-requires c κs = search needs
+table : (s : tie.Start) → length (s .args .cues) ≡ cueLimit
+table s = search needs
+
+least-requires : tie.Need-least-requires
+least-requires c κs = search needs
+
+take-within-requires : tie.Need-take-within-requires
+take-within-requires c κs = (omega arith, omega (arith, c .before .least .ensures))
 
 returns : tie.Need-returns
-returns c = search (all-taken, needs)
-
-below-requires : tie.Need-below-requires
-below-requires c κs = search needs
-
-tally-requires-2 : tie.Need-tally-requires-2
-tally-requires-2 c κs = omega arith
+returns c =
+    let s = c .before .before .before in
+    same-taken (s .args .cues) (s .args .count) _ (table s) (c .before .before .least .ensures) (s .args .from) (s .args .end) (s .args .last) (c .take-within .ensures)
 
 returns-2 : tie.Need-returns-2
-returns-2 c = search (some-taken, needs)
+returns-2 c =
+    let s = c .before .before in
+    no-cue-left (s .args .cues) (s .args .count) _ (table s) (c .before .least .ensures) (s .args .from) (s .args .end) (s .args .last) (omega arith)
 
 pub take-spec : {M : Type 1} → statement M
-take-spec = tie.close (tie.spec tally-requires returns below-requires tally-requires-2 returns-2)
+take-spec = tie.close (tie.spec least-requires take-within-requires returns returns-2)

@@ -1,13 +1,8 @@
-use Prim.Native.Nat.{ℕ, _+_, _*_}
-use mathlib.Core.Path.{_≡_, ap, sym, _∙_}
-use native.Mathlib.Omega.{arith}
-use lib.ListN.{length}
-use Rattle.layout.specs.Records.{P}
+use mathlib.Core.Path.{ap, sym, _∙_}
 use Rattle.writer.specs.Loading.{Push, pushArgs}
 use Rattle.writer.specs.Push.{loopsHere, loopFrom}
-use Rattle.writer.specs.Calls.{withStream}
-use Rattle.writer.proofs.GoodLaws.{push-good}
-use Rattle.writer_push.proofs.PushLaws.{push-refused, push-accepted, sound, to-within, few-points, are-taken, Worked, due-is, passes, starts, totals, sized, room, after-is, bytes-are}
+use Rattle.writer.proofs.GoodLaws.{push-good, parts-good}
+use Rattle.writer_push.proofs.PushLaws.{push-refused, push-accepted, Worked, due-is, sized, room, after-is, bytes-are}
 use borrow.Author.Needs.{needs}
 use Rattle.writer_push.proofs.push.Statement.{statement}
 use Rattle.writer_push.proofs.push.Tie as tie
@@ -15,7 +10,6 @@ use Rattle.writer_push.proofs.push.Reads as reads
 use Rattle.writer_push.proofs.push.Lts as lts
 use Rattle.writer_push.proofs.put_data.Reads as put-data-reads
 use Rattle.writer_push.proofs.refused.Reads as refused-reads
-use Rattle.writer_push_plan.proofs.advance.Reads as advance-reads
 use Rattle.writer_push_plan.proofs.block_end.Reads as block-end-reads
 use Rattle.writer_push_plan.proofs.plan_push.Reads as plan-push-reads
 use Rattle.writer_assign_cues.proofs.any_loop.Reads as any-loop-reads
@@ -63,7 +57,7 @@ any-loop-requires c κs = search needs
 plan-push-requires : tie.Need-plan-push-requires
 plan-push-requires c κs =
     let s = start c in
-    (sound (s .args .w) (s .pre), few-points (s .args .w) (s .pre) _ _ _ (c .before .take .ensures))
+    parts-good (s .args .w) (s .pre)
 
 refused-requires : tie.Need-refused-requires
 refused-requires c κs = search needs
@@ -79,49 +73,23 @@ put-header-requires : tie.Need-put-header-requires
 put-header-requires c κs = search needs
 
 put-taken-requires : tie.Need-put-taken-requires
-put-taken-requires c κs =
-    let e = c .before .before .before .before .before .before in
-    let p = e .before .before in
-    let s = start (p .before) in
-    let k = worked p in (
-      (to-within (s .args .w) (s .pre) _ _ _ (k .takes), omega (arith, s .pre .named, s .pre .placed, s .pre .few)),
-      (are-taken (s .args .w) (s .pre) _ _ _ (k .takes), omega (arith, totals k (e .if1 .left), room k (e .if1 .left) .1)),
-    )
+put-taken-requires c κs = search needs
 
 put-data-requires : tie.Need-put-data-requires
-put-data-requires c κs =
-    let e = c .before .before .before .before .before .before .before .before .before .before in
-    let k = worked (e .before .before) in
-    omega (arith, starts k (e .if1 .left), totals k (e .if1 .left), room k (e .if1 .left) .1)
-
-advance-requires : tie.Need-advance-requires
-advance-requires c κs =
-    let e = c .before .before .before .before .before .before .before .before .before .before .before .before .before in
-    let p = e .before .before in
-    let s = start (p .before) in
-    let k = worked p in
-    let h = passes k (e .if1 .left) in
-    let few = few-points (s .args .w) (s .pre) _ _ _ (k .takes) in (
-      omega (arith, s .pre .named, s .pre .placed, s .pre .few, few),
-      h .few,
-      few,
-      omega (arith, room k (e .if1 .left) .0, s .pre .small),
-      omega (arith, h .short, s .pre .sums, s .pre .many),
-    )
+put-data-requires c κs = search needs
 
 same-length : tie.Need-same-length
 same-length c = search needs
 
 returns-2 : tie.Need-returns-2
 returns-2 c =
-    let v = c .before .before in
-    let e = v .before .before .before .before .before .before .before .before .before .before .before .before .before .before in
+    let e = c .before .before .before .before .before .before .before .before .before .before .before .before .before .before .before .before in
     let p = e .before .before in
     let s = start (p .before) in
     let k = worked p in
     let z = e .if1 .left in
-    let a = ap (withStream (s .args .w)) (v .advance .ensures) ∙ after-is k z in
-    let b = bytes-are k z _ _ _ (v .before .before .before .before .before .before .before .before .before .before .before .put-header .ensures) (v .before .before .before .before .before .before .before .put-taken .ensures) (v .before .before .before .put-data .ensures) in
+    let a = after-is k z in
+    let b = bytes-are k z _ _ _ (c .before .before .before .before .before .before .before .before .before .before .before .before .before .put-header .ensures) (c .before .before .before .before .before .before .before .before .before .put-taken .ensures) (c .before .before .before .before .before .put-data .ensures) in
     let q = push-accepted (s .args .w) (pushed s) (s .args .lent .now) _ (due-is k) z _ _ _ a (sized k z) (room k z .1) b in
     (q .0, (q .1, rw a (push-good (s .args .w) (pushed s) _ (s .pre) (sym (due-is k) ∙ z))))
 
@@ -138,6 +106,5 @@ push-spec =
     put-header-requires
     put-taken-requires
     put-data-requires
-    advance-requires
     same-length
     returns-2)

@@ -1,10 +1,10 @@
 use Prim.Native.Nat.{_+_, _≤_}
 use mathlib.Core.Path.{_≡_, ap}
 use native.Mathlib.Omega.{arith}
-use Rattle.layout.specs.Refusals.{lengthLimit}
-use Rattle.writer.specs.Loading.{dataSize}
 use Rattle.layout.specs.Records.{dataAfter}
-use Rattle.writer_push_plan.proofs.PlanLaws.{Passing, passing, size-small, block-small, fits-room, plan-early, plan-room, plan-made, loop-near}
+use Rattle.layout.specs.Refusals.{lengthLimit, slotLimit}
+use Rattle.writer.specs.Loading.{dataSize}
+use Rattle.writer_push_plan.proofs.PlanLaws.{Passing, passing, size-small, block-small, fits-room, plan-early, plan-many, plan-room, plan-made, loop-near}
 use borrow.Author.Needs.{needs}
 use Rattle.writer_push_plan.proofs.plan_push.Statement.{statement}
 use Rattle.writer_push_plan.proofs.plan_push.Tie as tie
@@ -12,6 +12,7 @@ use Rattle.writer_push_plan.proofs.plan_push.Reads as reads
 use Rattle.writer_push_plan.proofs.plan_push.Lts as lts
 use Rattle.writer_push_refusal.proofs.early_due.Reads as early-due-reads
 use Rattle.writer_push_refusal.proofs.room_due.Reads as room-due-reads
+use Rattle.writer_push_plan.proofs.advance.Reads as advance-reads
 use Rattle.writer_push_plan.proofs.data_size.Reads as data-size-reads
 use Rattle.writer_push_plan.proofs.data_start.Reads as data-start-reads
 use Rattle.writer_push_plan.proofs.loop_after.Reads as loop-after-reads
@@ -19,17 +20,6 @@ use Rattle.writer_push_plan.proofs.loop_due.Reads as loop-due-reads
 use Rattle.writer_push_plan.proofs.next_offset.Reads as next-offset-reads
 use Rattle.writer_push_plan.proofs.no_plan.Reads as no-plan-reads
 use Rattle.writer_push_plan.proofs.second_context.Reads as second-context-reads
-
--- ---- Where a number before 24 is due
-
-early-due-requires : tie.Need-early-due-requires
-early-due-requires c κs = search needs
-
-no-plan-requires : tie.Need-no-plan-requires
-no-plan-requires c κs = search needs
-
-returns : tie.Need-returns
-returns c = search (plan-early, needs)
 
 -- ---- What is known at the places of the code
 
@@ -40,44 +30,73 @@ start c = c .before .before .before .before
 early-none : (c : tie.Else1) → Passing (start c .args .s .blocks) (start c .args .channels) (start c .args .left) (start c .args .left-bytes) (start c .args .right-bytes)
 early-none c = passing _ _ _ _ _ _ _ _ _ _ _ (c .before .early-due .ensures) (c .if1 .left)
 
-small : (c : tie.After-data-size) → c .data-size .result ≤ lengthLimit
-small c =
-    let h = early-none (c .before) in
-    size-small _ _ _ _ (h .left) (h .right) (c .data-size .ensures)
+-- nor are there more points and ranges than a slot has bytes
+abbrev first : tie.Else2 → tie.Else1
+first c = c .before .before
 
-sized : (c : tie.After-data-start) → c .data-start .result + c .before .data-size .result ≡ dataAfter (start (c .before .before) .args .taken .points) + dataSize (start (c .before .before) .args .channels) (start (c .before .before) .args .left-bytes) (start (c .before .before) .args .right-bytes)
+abbrev begun : tie.Else2 → tie.Start
+begun c = start (first c)
+
+small : (c : tie.After-data-size) → c .data-size .result ≤ lengthLimit
+small c = let h = early-none (first (c .before)) in size-small _ _ _ _ (h .left) (h .right) (c .data-size .ensures)
+
+sized : (c : tie.After-data-start) → let s = begun (c .before .before) in
+    c .data-start .result + c .before .data-size .result ≡ dataAfter (s .args .taken .points) + dataSize (s .args .channels) (s .args .left-bytes) (s .args .right-bytes)
 sized c = rw (c .data-start .ensures, c .before .data-size .ensures)
 
 -- the block fits into slot and buffer
-room : (c : tie.Else2)
-    → (start (c .before .before .before .before) .args .s .offset + (c .before .before .data-start .result + c .before .before .before .data-size .result) ≤ start (c .before .before .before .before) .args .setup .slot)
-    × (c .before .before .data-start .result + c .before .before .before .data-size .result ≤ start (c .before .before .before .before) .args .lent)
-room c = fits-room _ _ _ _ _ (c .before .room-due .ensures) (c .if2 .left)
+abbrev fitted : tie.Else3 → tie.Start
+fitted c = begun (c .before .before .before .before)
 
--- ---- The other needs
+room : (c : tie.Else3)
+    → (fitted c .args .s .offset + (c .before .before .data-start .result + c .before .before .before .data-size .result) ≤ fitted c .args .setup .slot)
+    × (c .before .before .data-start .result + c .before .before .before .data-size .result ≤ fitted c .args .lent)
+room c = fits-room _ _ _ _ _ (c .before .room-due .ensures) (c .if3 .left)
 
-data-size-requires : tie.Need-data-size-requires
-data-size-requires c κs = let h = early-none c in (h .left, h .right)
+-- ---- The needs
 
-data-start-requires : tie.Need-data-start-requires
-data-start-requires c κs = search needs
+early-due-requires : tie.Need-early-due-requires
+early-due-requires c κs = search needs
 
-add-size : tie.Need-add-size
-add-size c = omega (arith, block-small _ _ _ (start (c .before .before) .pre .1) (small (c .before)) (ap (λ m. m + c .before .data-size .result) (c .data-start .ensures)))
+no-plan-requires : tie.Need-no-plan-requires
+no-plan-requires c κs = search needs
 
-room-due-requires : tie.Need-room-due-requires
-room-due-requires c κs = search needs
+returns : tie.Need-returns
+returns c = search (plan-early, needs)
 
 no-plan-requires-2 : tie.Need-no-plan-requires-2
 no-plan-requires-2 c κs = search needs
 
 returns-2 : tie.Need-returns-2
 returns-2 c =
-    let d = c .before .before .before in
-    let e = d .before .before in
+    let e = c .before .before .before in
     let s = start e in
-    plan-room (s .args .setup) (s .args .s) (s .args .taken) (s .args .held) (s .args .end) (s .args .channels) (s .args .left) (s .args .right) (s .args .left-bytes) (s .args .right-bytes) (s .args .last) (s .args .lent)
-    _ (e .before .early-due .ensures) (e .if1 .left) _ _ (sized d) (c .before .before .room-due .ensures) (c .before .if2 .taken) _ (c .no-plan2 .ensures)
+    plan-many (s .args .setup) (s .args .s) (s .args .taken) (s .args .held) (s .args .end) (s .args .channels) (s .args .left) (s .args .right) (s .args .left-bytes) (s .args .right-bytes)
+    (s .args .last) (s .args .lent) _ (e .before .early-due .ensures) (e .if1 .left) (omega (arith, s .pre .small, c .before .if2 .taken)) _ (c .no-plan2 .ensures)
+
+data-size-requires : tie.Need-data-size-requires
+data-size-requires c κs = let h = early-none (first c) in (h .left, h .right)
+
+data-start-requires : tie.Need-data-start-requires
+data-start-requires c κs = search needs
+
+add-size : tie.Need-add-size
+add-size c =
+    omega (arith, block-small _ _ _ (c .before .before .if2 .left) (small (c .before)) (ap (λ m. m + c .before .data-size .result) (c .data-start .ensures)))
+
+room-due-requires : tie.Need-room-due-requires
+room-due-requires c κs = search needs
+
+no-plan-requires-3 : tie.Need-no-plan-requires-3
+no-plan-requires-3 c κs = search needs
+
+returns-3 : tie.Need-returns-3
+returns-3 c =
+    let d = c .before .before .before in
+    let e = first (d .before .before) in
+    let s = start e in
+    plan-room (s .args .setup) (s .args .s) (s .args .taken) (s .args .held) (s .args .end) (s .args .channels) (s .args .left) (s .args .right) (s .args .left-bytes) (s .args .right-bytes)
+    (s .args .last) (s .args .lent) _ (e .before .early-due .ensures) (e .if1 .left) _ _ (sized d) (c .before .before .room-due .ensures) (c .before .if3 .taken) _ (c .no-plan3 .ensures)
 
 loop-due-requires : tie.Need-loop-due-requires
 loop-due-requires c κs = search needs
@@ -86,15 +105,15 @@ loop-after-requires : tie.Need-loop-after-requires
 loop-after-requires c κs = search needs
 
 add-next-offset : tie.Need-add-next-offset
-add-next-offset c =
-    let e = c .before .before .before in
-    omega (arith, room e .0, start (e .before .before .before .before) .pre .0 .small)
+add-next-offset c = let e = c .before .before .before in omega (arith, room e .0, fitted e .pre .small)
 
 next-offset-requires : tie.Need-next-offset-requires
 next-offset-requires c κs =
     let e = c .before .before .before in
-    let s = start (e .before .before .before .before) in
-    (omega (arith, room e .0, s .pre .0 .small), λ n q. omega (arith, loop-near _ _ (s .pre .0) (c .before .before .loop-due .result) _ (c .before .loop-after .ensures) n q, s .pre .0 .room, s .pre .0 .small))
+    let s = fitted e in (
+      omega (arith, room e .0, s .pre .small),
+      λ n q. omega (arith, loop-near _ _ (s .pre) (c .before .before .loop-due .result) _ (c .before .loop-after .ensures) n q, s .pre .room, s .pre .small),
+    )
 
 second-context-requires : tie.Need-second-context-requires
 second-context-requires c κs = search needs
@@ -103,21 +122,35 @@ cast-padded : tie.Need-cast-padded
 cast-padded c = record { fits = omega (arith, small (c .before .before .before .before .before .before .before .before .before)) }
 
 sub-last-address : tie.Need-sub-last-address
-sub-last-address c = omega (arith, early-none (c .before .before .before .before .before .before .before .before .before .before .before) .long)
+sub-last-address c = omega (arith, early-none (first (c .before .before .before .before .before .before .before .before .before .before .before)) .long)
 
 cast-end-address : tie.Need-cast-end-address
-cast-end-address c = record { fits = omega (arith, early-none (c .before .before .before .before .before .before .before .before .before .before .before) .short) }
+cast-end-address c = record { fits = omega (arith, early-none (first (c .before .before .before .before .before .before .before .before .before .before .before)) .short) }
 
-returns-3 : tie.Need-returns-3
-returns-3 c =
-    let n = c .before .before .before in
-    let f = n .before .before in
-    let d = f .before .before .before .before in
-    let e = d .before .before in
+advance-requires : tie.Need-advance-requires
+advance-requires c κs =
+    let f = c .before .before .before .before .before .before .before in
+    let e = c .before .before .before .before .before .before .before .before .before .before .before in
+    let h = early-none (first e) in
+    let g = begun e .pre in
+    let few = e .if2 .left in (
+      omega (arith, g .named, g .placed, g .few, few),
+      h .few,
+      few,
+      omega (arith, room f .0, g .small),
+      omega (arith, h .short, g .sums, g .many),
+    )
+
+returns-4 : tie.Need-returns-4
+returns-4 c =
+    let n = c .before .before .before .before in
+    let f = c .before .before .before .before .before .before in
+    let d = c .before .before .before .before .before .before .before .before .before .before in
+    let e = first (c .before .before .before .before .before .before .before .before .before .before .before .before) in
     let s = start e in
-    plan-made (s .args .setup) (s .args .s) (s .args .taken) (s .args .held) (s .args .end) (s .args .channels) (s .args .left) (s .args .right) (s .args .left-bytes) (s .args .right-bytes) (s .args .last) (s .args .lent)
-    _ (e .before .early-due .ensures) (e .if1 .left) _ _ (sized d) (f .before .before .before .room-due .ensures) (f .before .before .if2 .left) _ (f .before .loop-due .ensures) _ (f .loop-after .ensures)
-    _ _ _ _ (d .before .data-size .ensures) (d .data-start .ensures) (n .next-offset .ensures) (c .before .second-context .ensures)
+    plan-made (s .args .setup) (s .args .s) (s .args .taken) (s .args .held) (s .args .end) (s .args .channels) (s .args .left) (s .args .right) (s .args .left-bytes) (s .args .right-bytes)
+    (s .args .last) (s .args .lent) _ (e .before .early-due .ensures) (e .if1 .left) _ _ (sized d) (f .before .before .before .room-due .ensures) (f .before .before .if3 .left) _ (f .before .loop-due .ensures) _ (f .loop-after .ensures)
+    _ _ _ _ _ (d .before .data-size .ensures) (d .data-start .ensures) (n .next-offset .ensures) (c .before .before .second-context .ensures) (c .advance .ensures)
 
 pub plan-push-spec : {M : Type 1} → statement M
 plan-push-spec =
@@ -126,12 +159,14 @@ plan-push-spec =
     early-due-requires
     no-plan-requires
     returns
+    no-plan-requires-2
+    returns-2
     data-size-requires
     data-start-requires
     add-size
     room-due-requires
-    no-plan-requires-2
-    returns-2
+    no-plan-requires-3
+    returns-3
     loop-due-requires
     loop-after-requires
     add-next-offset
@@ -140,4 +175,5 @@ plan-push-spec =
     cast-padded
     sub-last-address
     cast-end-address
-    returns-3)
+    advance-requires
+    returns-4)

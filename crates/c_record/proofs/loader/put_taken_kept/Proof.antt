@@ -15,9 +15,7 @@ cues-in-requires : tie.Need-cues-in-requires
 cues-in-requires c κs = search needs
 
 put-taken-requires : tie.Need-put-taken-requires
-put-taken-requires c κs =
-    let s = c .before .before .before .before .before in
-    ((s .pre .0 .1, s .pre .0 .2), (rw (c .before .cues-in .ensures) (s .pre .1 .0), s .pre .1 .1))
+put-taken-requires c κs = search needs
 
 same-length : tie.Need-same-length
 same-length c = search needs

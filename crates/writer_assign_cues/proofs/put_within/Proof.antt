@@ -1,0 +1,35 @@
+use native.Mathlib.Omega.{arith}
+use Rattle.writer_assign_cues.proofs.PointLaws.{fill-place, points-room, taken-put}
+use borrow.Author.Needs.{needs}
+use Rattle.writer_assign_cues.proofs.put_within.Statement.{statement}
+use Rattle.writer_assign_cues.proofs.put_within.Tie as tie
+use Rattle.writer_assign_cues.proofs.put_within.Reads as reads
+use Rattle.writer_assign_cues.proofs.put_within.Lts as lts
+use Rattle.layout_put_block.proofs.put_fillers.Reads as put-fillers-reads
+use Rattle.writer_assign_cues.proofs.put_points.Reads as put-points-reads
+
+put-points-requires : tie.Need-put-points-requires
+put-points-requires c κs =
+    let s = c .before .before in
+    let a = s .args in
+    let t = s .pre .1 .0 in
+    ((t .above, s .pre .0), points-room (a .buf .now) (a .at) (a .base) (a .id) (a .points) _ (t .counted) (s .pre .1 .1))
+
+mul-put-fillers : tie.Need-mul-put-fillers
+mul-put-fillers c = let s = c .before .before .before .before .before .before in omega (arith, fill-place (s .args .at) (s .args .points) _ (s .pre .1 .1))
+
+add-put-fillers : tie.Need-add-put-fillers
+add-put-fillers c = let s = c .before .before .before .before .before .before in omega (arith, fill-place (s .args .at) (s .args .points) _ (s .pre .1 .1))
+
+put-fillers-requires : tie.Need-put-fillers-requires
+put-fillers-requires c κs = search needs
+
+same-length : tie.Need-same-length
+same-length c = search needs
+
+returns : tie.Need-returns
+returns c = search (taken-put, needs)
+
+pub put-within-spec : {M : Type 1} → statement M
+put-within-spec =
+    tie.close (tie.spec put-points-requires mul-put-fillers add-put-fillers put-fillers-requires same-length returns)

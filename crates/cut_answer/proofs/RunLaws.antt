@@ -15,8 +15,8 @@ use Rattle.layout.specs.Puts.{putAt}
 use Rattle.layout.proofs.Cases.{by-cases}
 use Rattle.layout.proofs.PutLaws.{putAt-in, putAt-length}
 use Rattle.writer.specs.WritesAndCuttingRule.{Write, writesIn}
-use Rattle.power_cut_moments.specs.Moments.{slotAt}
-use Rattle.power_cut_moments.proofs.MomentLaws.{slot-start}
+use Rattle.power_cut_moments.specs.Moments.{slotAt, nextByte}
+use Rattle.power_cut_moments.proofs.MomentLaws.{slot-start, next-slot}
 use Rattle.key_listing.specs.MarkingKey.{listing}
 use Rattle.cut_write_log.specs.WriteLog.{loggedWrites}
 use Rattle.cut_write_log.specs.declared.WriteLog.{WriteLog}
@@ -71,7 +71,10 @@ module _ {start first : List ℕ} {ws : List Write} {from total : ℕ} {slot : L
         ends = inl (z ∙ add-one total);
       }
 
-  module _ {after : List ℕ} {b : Bool} (l : m < total) (n : length after ≡ length slot) (step : (s : List ℕ) → slot ≡ slotAt s ws m → after ≡ slotAt s ws (m + 1)) where
+  module _ {after : List ℕ} {b : Bool} (l : m < total) (n : length after ≡ length slot) (byte : after ≡ nextByte slot ws m) where
+    step : (s : List ℕ) → slot ≡ slotAt s ws m → after ≡ slotAt s ws (m + 1)
+    step s e = byte ∙ rw e (next-slot s ws m)
+
     pub going-more : b ≡ true → (b ≡ true → listing first ≡ listing after) → Going start first ws from total after (m + 1)
     going-more y alike =
         record {

@@ -8,19 +8,20 @@ use lib.ListN.{length, take, drop, replicate, length-append, length-take, length
 use lib.Dec.{eqb}
 use borrow.Author.Tests.{ltb-false, leb-false, eqb-true}
 use Rattle.layout.specs.Lists.{sum}
+use Rattle.layout.specs.Puts.{putAt}
 use Rattle.layout.proofs.Cases.{by-cases, apart}
 use Rattle.writer.specs.WritesAndCuttingRule.{Write, write, placeOf, handed, writesIn, mostWrites}
 use Rattle.writer.specs.Loading.{Push, refused, accepted, beginRefusal, beginWrite, pushRefusal, finishRefusal, blockSize, startWrite, restWrite, markWrite}
-use Rattle.writer.specs.Calls.{Handed, handedWrites, replyFor, placesIn, Outcome, outcome, writes, called, blank, emptyOf, beginOf, takenOf, stateIn, nextFor, pushBytes, afterPush, pushOf, headerOf, afterFinish, finishOf, Good}
+use Rattle.writer.specs.Calls.{Handed, handedWrites, replyFor, placesIn, Outcome, outcome, writes, called, blank, emptyOf, beginOf, takenOf, stateIn, nextFor, pushBytes, afterPush, pushOf, headerOf, afterFinish, finishOf, answerOf, Good}
 use Rattle.writer.specs.declared.Looping.{Looping}
 use Rattle.writer.specs.declared.HpsWriter.{HpsWriter}
 use Rattle.writer.specs.declared.Called.{Called}
 use Rattle.writer.proofs.DueLaws.{passed, passed-finish}
 use Rattle.writer.proofs.WriteLaws.{bytes-length, places-are}
-use Rattle.cut_write_log.specs.WriteLog.{sizes, loggedWrites, emptyLog, Listed, Room, Logs}
+use Rattle.cut_write_log.specs.WriteLog.{Logging, logging, logAll, sizes, loggedWrites, emptyLog, Listed}
 use Rattle.cut_write_log.specs.declared.WriteLog.{WriteLog}
-use Rattle.cut_write_log.proofs.WriteLogLaws.{none-listed, logs-long}
-use Rattle.cut_logged_calls.specs.LoggedCalls.{lentOf, Tally, MadeBy, Begun}
+use Rattle.cut_write_log.proofs.WriteLogLaws.{Room, Logs, none-listed, logs-long, logs-all}
+use Rattle.cut_logged_calls.specs.LoggedCalls.{lentOf, logAfter, madeBy, Tally, logSize}
 use Rattle.layout.specs.Refusals.{blockLimit, keyLimit}
 use Rattle.layout.specs.Records.{fileHeaderSize}
 use Rattle.writer.specs.Push.{advanced}
@@ -98,21 +99,26 @@ module _ (n : ℕ) (w : HpsWriter) (lent : List ℕ) (next : HpsWriter) (h : Han
         bytes = λ f. omega (arith, b, t .bytes f);
       }))
 
--- what a call is logged as, by its outcome
-pub call-made : (o : Outcome) {call : Called} {l : List ℕ} {j : WriteLog} {logged : List ℕ} → call ≡ called o → l ≡ o .lent → {q : WriteLog} {after : List ℕ} → Good (call .writer)
-    → (Logs j logged (o .lent) (placesIn (o .reply)) q after → Tally q (o .writer) after) → Logs j logged l (placesIn (call .reply)) q after
-    → MadeBy o j logged (record { writer = call .writer; reply = call .reply; log = q }) after
-unfolding writes
-call-made o {j = j} {logged = logged} e el {q} {after} good t h =
-    let k : Logs j logged (o .lent) (placesIn (o .reply)) q after = rw (e, el) at h in
-    record {
-      writer = ap (λ (c : Called). c .writer) e;
-      reply = ap (λ (c : Called). c .reply) e;
-      good = good;
-      tally = rw e (t k);
-      is = k .is;
-      put = k .put;
-    }
+-- What is logged of a call that finds room.
+pub record Tallied (o : Outcome) (g after : Logging) : Type 0 where
+  pub tally : Tally (after .log) (o .writer) (after .bytes)
+  pub is : loggedWrites (after .log) (after .bytes) ≡ loggedWrites (g .log) (g .bytes) ++ writes o
+  pub put : after .bytes ≡ putAt (g .bytes) (g .log .total) (handed (writes o))
+
+module _ (n : ℕ) (w : HpsWriter) (lent : List ℕ) (next : HpsWriter) (h : Handed) (g : Logging) where
+  tallied : Tally (g .log) w (g .bytes) → Fits n w lent next h (g .log) (g .bytes) → Counts n w lent next h (g .log) (g .bytes) → Tallied (outcome n w lent next h) g (logAfter (outcome n w lent next h) g)
+  unfolding logAfter writes
+  tallied t f c =
+      let o = outcome n w lent next h in
+      let k = logs-all (placesIn (o .reply)) g (o .lent) (t .listed) (room-for n w lent next h (g .log) (g .bytes) (t .listed) f) in
+      record { tally = tally-after n w lent next h (g .log) (g .bytes) t c k; is = k .is; put = k .put }
+
+-- What a call leaves, by its outcome.
+pub call-made : (o : Outcome) (g : Logging) {call : Called} {l : List ℕ} {q : WriteLog} {after : List ℕ} → (call ≡ called o) × ((l ≡ o .lent) × Good (call .writer))
+    → (q ≡ logAll g l 0 (placesIn (call .reply)) .log) × (after ≡ logAll g l 0 (placesIn (call .reply)) .bytes)
+    → (record { writer = call .writer; reply = call .reply; log = q } ≡ madeBy o g) × ((after ≡ logAfter o g .bytes) × Good (call .writer))
+unfolding logAfter
+call-made o g b h = (rw (h .0, b .0, b .1 .0), (h .1 ∙ rw (b .0, b .1 .0), b .1 .1))
 
 -- ---- Push
 
@@ -120,7 +126,7 @@ one-handed : (at : ℕ) (bs : List ℕ) → length (handed (write at bs ∷ []))
 unfolding handed
 one-handed at bs = omega (arith, length-append bs [])
 
-module _ (w : HpsWriter) (p : Push) (lent : List ℕ) {j : WriteLog} {logged : List ℕ} (g : Good w) (t : Tally j w logged) where
+module _ (w : HpsWriter) (p : Push) (lent : List ℕ) (l : Logging) (g : Good w) (t : Tally (l .log) w (l .bytes)) where
   n : ℕ
   n = pushRefusal (stateIn w) (takenOf w p) p (length lent)
 
@@ -138,7 +144,7 @@ module _ (w : HpsWriter) (p : Push) (lent : List ℕ) {j : WriteLog} {logged : L
       let f = passed _ _ p _ (eqb-true _ 0 q) in
       by-cases (w .finished) (λ d. apart (sym (g .done d) ∙ f .no26)) (λ d. d)
 
-  push-fits : Fits n w lent (afterPush w p) (Handed.one block) j logged
+  push-fits : Fits n w lent (afterPush w p) (Handed.one block) (l .log) (l .bytes)
   unfolding n block
   push-fits q =
       let f = passed _ _ p _ (eqb-true _ 0 q) in
@@ -147,23 +153,17 @@ module _ (w : HpsWriter) (p : Push) (lent : List ℕ) {j : WriteLog} {logged : L
       let u = unfinished q in
       (omega (arith, t .many u), omega (arith, t .bytes u, t .small, t .room, size))
 
-  push-counts : Counts n w lent (afterPush w p) (Handed.one block) j logged
+  push-counts : Counts n w lent (afterPush w p) (Handed.one block) (l .log) (l .bytes)
   unfolding afterPush advanced block
   push-counts q = (t .small, λ u. (omega (arith, t .many u), omega (arith, t .bytes u, size)))
 
-  module _ {call : Called} {l : List ℕ} (e : call ≡ called (pushOf w p lent)) (el : l ≡ pushOf w p lent .lent) where
-    pub push-room : Room j logged l (placesIn (call .reply))
-    unfolding pushOf n block
-    push-room = rw (e, el) (room-for n w lent (afterPush w p) (Handed.one block) j logged (t .listed) push-fits)
-
-    pub push-made : {q : WriteLog} {after : List ℕ} → Good (call .writer) → Logs j logged l (placesIn (call .reply)) q after
-        → MadeBy (pushOf w p lent) j logged (record { writer = call .writer; reply = call .reply; log = q }) after
-    unfolding pushOf n block
-    push-made good h = call-made (pushOf w p lent) e el good (tally-after n w lent (afterPush w p) (Handed.one block) j logged t push-counts) h
+  pub push-tallied : Tallied (pushOf w p lent) l (logAfter (pushOf w p lent) l)
+  unfolding pushOf n block
+  push-tallied = tallied n w lent (afterPush w p) (Handed.one block) l t push-fits push-counts
 
 -- ---- Finish
 
-module _ (w : HpsWriter) (lent : List ℕ) {j : WriteLog} {logged : List ℕ} (g : Good w) (t : Tally j w logged) where
+module _ (w : HpsWriter) (lent : List ℕ) (l : Logging) (g : Good w) (t : Tally (l .log) w (l .bytes)) where
   number : ℕ
   number = finishRefusal (w .finished) (w .stream .blocks) (w .stream .last) (length lent)
 
@@ -179,61 +179,62 @@ module _ (w : HpsWriter) (lent : List ℕ) {j : WriteLog} {logged : List ℕ} (g
       let c = take 1 (drop 15 h) in
       omega (arith, length-append a (b ++ (c ++ [])), length-append b (c ++ []), length-append c [], length-take 15 h, length-take 112 (drop 16 h), length-take 1 (drop 15 h))
 
-  finish-fits : Fits number w lent (afterFinish w) header j logged
+  finish-fits : Fits number w lent (afterFinish w) header (l .log) (l .bytes)
   unfolding number header
   finish-fits q =
       let u = passed-finish _ _ _ _ (eqb-true _ 0 q) .no26 in
       (omega (arith, t .many u, g .many), omega (arith, t .bytes u, t .small, t .room, g .room, header-size))
 
-  finish-counts : Counts number w lent (afterFinish w) header j logged
+  finish-counts : Counts number w lent (afterFinish w) header (l .log) (l .bytes)
   unfolding afterFinish
   finish-counts q = (t .small, λ u. apart u)
 
-  module _ {call : Called} {l : List ℕ} (e : call ≡ called (finishOf w lent)) (el : l ≡ finishOf w lent .lent) where
-    pub finish-room : Room j logged l (placesIn (call .reply))
-    unfolding finishOf number header
-    finish-room = rw (e, el) (room-for number w lent (afterFinish w) header j logged (t .listed) finish-fits)
-
-    pub finish-made : {q : WriteLog} {after : List ℕ} → Good (call .writer) → Logs j logged l (placesIn (call .reply)) q after
-        → MadeBy (finishOf w lent) j logged (record { writer = call .writer; reply = call .reply; log = q }) after
-    unfolding finishOf number header
-    finish-made good h = call-made (finishOf w lent) e el good (tally-after number w lent (afterFinish w) header j logged t finish-counts) h
+  pub finish-tallied : Tallied (finishOf w lent) l (logAfter (finishOf w lent) l)
+  unfolding finishOf number header
+  finish-tallied = tallied number w lent (afterFinish w) header l t finish-fits finish-counts
 
 -- ---- Begin
 
-module _ (slot ch : ℕ) (mode : Looping) (lent : List ℕ) {logged : List ℕ} {j : WriteLog} {call : Called} {l : List ℕ} (none : j ≡ emptyLog) (e : call ≡ called (beginOf slot ch mode lent)) (el : l ≡ beginOf slot ch mode lent .lent) where
-  begin-room : 1 ≤ length logged → Room j logged l (placesIn (call .reply))
-  unfolding beginOf handed
-  begin-room room =
-      rw (none, e, el)
+module _ (slot ch : ℕ) (mode : Looping) (lent logged : List ℕ) where
+  abbrev begun : Outcome
+  begun = beginOf slot ch mode lent
+
+  abbrev first : Logging
+  first = logAfter begun (logging emptyLog logged)
+
+  begin-logs : 1 ≤ length logged → Logs emptyLog logged (begun .lent) (placesIn (begun .reply)) (first .log) (first .bytes)
+  unfolding beginOf handed logAfter
+  begin-logs room =
+      logs-all (placesIn (begun .reply)) (logging emptyLog logged) (begun .lent) (none-listed logged)
       (room-for (beginRefusal slot ch (length lent)) blank lent (emptyOf slot ch mode) (Handed.one beginWrite) emptyLog logged (none-listed logged) (λ q. (omega arith, omega arith)))
 
-  pub begin-made : {q : WriteLog} {after : List ℕ} → Good (call .writer) → (Room j logged l (placesIn (call .reply)) → Logs j logged l (placesIn (call .reply)) q after)
-      → Begun slot (beginOf slot ch mode lent) logged (record { writer = call .writer; reply = call .reply; log = q }) after
-  unfolding beginOf writes loggedWrites writesIn sizes sum handed
-  begin-made {q} {after} good h =
-      let k : 1 ≤ length logged → Logs emptyLog logged (beginOf slot ch mode lent .lent) (placesIn (beginOf slot ch mode lent .reply)) q after = λ room. rw (none, e, el) at (h (begin-room room)) in
-      record {
-        writer = ap (λ (c : Called). c .writer) e;
-        reply = ap (λ (c : Called). c .reply) e;
-        good = good;
-        tally = λ room small a.
-            by-cases (eqb (beginRefusal slot ch (length lent)) 0)
-            (λ z.
-            let n = k (omega arith) in
-            let c : q .count ≡ 0 + 1 = rw z at (n .count) in
-            let b : q .total ≡ 0 + (1 + 0) = rw z at (n .total) in
-            rw (e, z) (record {
-              listed = n .listed;
-              room = omega (arith, logs-long n);
-              small = small;
-              many = λ u. omega arith;
-              bytes = λ u. omega arith;
-            }))
-            (λ z. let x : refused (beginRefusal slot ch (length lent)) ≡ accepted 0 = rw z at a in let y : _≡_ {A = ℕ} 0 1 = cc in absurd (omega arith));
-        is = λ room. k room .is;
-        put = λ room. k room .put;
-      }
+  pub begin-is : 1 ≤ length logged → loggedWrites (first .log) (first .bytes) ≡ writes begun
+  unfolding writes loggedWrites writesIn
+  begin-is room = begin-logs room .is
+
+  pub begin-put : 1 ≤ length logged → first .bytes ≡ putAt logged 0 (handed (writes begun))
+  unfolding writes
+  begin-put room = begin-logs room .put
+
+  tally-of : {q : WriteLog} {after : List ℕ} → logSize ≤ length logged → slot ≤ keyLimit → answerOf begun ≡ accepted 0 → Logs emptyLog logged (begun .lent) (placesIn (begun .reply)) q after → Tally q (begun .writer) after
+  unfolding beginOf sizes sum
+  tally-of {q} room small a n =
+      by-cases (eqb (beginRefusal slot ch (length lent)) 0)
+      (λ z.
+      let c : q .count ≡ 0 + 1 = rw z at (n .count) in
+      let b : q .total ≡ 0 + (1 + 0) = rw z at (n .total) in
+      rw z (record {
+        listed = n .listed;
+        room = omega (arith, logs-long n);
+        small = small;
+        many = λ u. omega arith;
+        bytes = λ u. omega arith;
+      }))
+      (λ z. let x : refused (beginRefusal slot ch (length lent)) ≡ accepted 0 = rw z at a in let y : _≡_ {A = ℕ} 0 1 = cc in absurd (omega arith))
+
+  -- Accepted for a slot of at most 65,536 bytes, it leaves room for all that may come.
+  pub begin-tally : logSize ≤ length logged → slot ≤ keyLimit → answerOf begun ≡ accepted 0 → Tally (first .log) (begun .writer) (first .bytes)
+  begin-tally room small a = tally-of room small a (begin-logs (omega arith))
 
 -- ---- The lent buffer
 

@@ -2,15 +2,12 @@
 use Prim.Native.Nat.{ℕ, suc, _+_, _≤_, min}
 use mathlib.Core.Path.{_≡_}
 use mathlib.Core.Bool.{false}
-use mathlib.Core.List.{List, _++_}
+use mathlib.Core.List.{List}
 use lib.ListN.{length, replicate}
 use Rattle.layout.specs.Records.{fileHeaderSize}
-use Rattle.layout.specs.Puts.{putAt}
-use Rattle.writer.specs.WritesAndCuttingRule.{handed}
-use Rattle.writer.specs.Loading.{accepted}
-use Rattle.writer.specs.Calls.{Outcome, writes, Good, answerOf}
+use Rattle.writer.specs.Calls.{Outcome, placesIn}
 use Rattle.writer.specs.declared.HpsWriter.{HpsWriter}
-use Rattle.cut_write_log.specs.WriteLog.{loggedWrites, Listed}
+use Rattle.cut_write_log.specs.WriteLog.{Logging, logAll, Listed}
 use Rattle.cut_write_log.specs.declared.WriteLog.{WriteLog}
 use Rattle.cut_logged_calls.specs.declared.Made.{Made}
 use Rattle.layout.specs.Refusals.{keyLimit}
@@ -27,6 +24,14 @@ logSize = keyLimit + fileHeaderSize
 abbrev pub lentOf : (length : ℕ) → List ℕ
 lentOf n = replicate (min n longLent) 0
 
+-- The log after a call: its writes are logged after the others, with their bytes from the lent buffer; a refused call's are none.
+unfoldable pub logAfter : Outcome → Logging → Logging
+logAfter o g = logAll g (o .lent) 0 (placesIn (o .reply))
+
+-- What a call leaves: record and reply are the call's.
+abbrev pub madeBy : Outcome → Logging → Made
+madeBy o g = record { writer = o .writer; reply = o .reply; log = logAfter o g .log }
+
 -- What is logged by the writer's record: before the finish begin's write and each block's, so that there is room for all that may come.
 pub record Tally (j : WriteLog) (w : HpsWriter) (logged : List ℕ) : Type 0 where
   pub listed : Listed j logged
@@ -34,21 +39,3 @@ pub record Tally (j : WriteLog) (w : HpsWriter) (logged : List ℕ) : Type 0 whe
   pub small : w .setup .slot ≤ keyLimit
   pub many : w .finished ≡ false → j .count ≡ suc (w .stream .blocks)
   pub bytes : w .finished ≡ false → j .total + 127 ≡ w .stream .offset
-
--- What a call leaves: record and answer are the call's, and its writes are logged after the others, with their bytes; a refused call's are none.
-pub record MadeBy (o : Outcome) (j : WriteLog) (logged : List ℕ) (m : Made) (after : List ℕ) : Type 0 where
-  pub writer : m .writer ≡ o .writer
-  pub reply : m .reply ≡ o .reply
-  pub good : Good (m .writer)
-  pub tally : Tally (m .log) (m .writer) after
-  pub is : loggedWrites (m .log) after ≡ loggedWrites j logged ++ writes o
-  pub put : after ≡ putAt logged (j .total) (handed (writes o))
-
--- What begin leaves: its write alone is logged, or none where it is refused. Accepted for a slot of at most 65,536 bytes, it leaves room for all that may come.
-pub record Begun (slot : ℕ) (o : Outcome) (logged : List ℕ) (m : Made) (after : List ℕ) : Type 0 where
-  pub writer : m .writer ≡ o .writer
-  pub reply : m .reply ≡ o .reply
-  pub good : Good (m .writer)
-  pub tally : logSize ≤ length logged → slot ≤ keyLimit → answerOf o ≡ accepted 0 → Tally (m .log) (m .writer) after
-  pub is : 1 ≤ length logged → loggedWrites (m .log) after ≡ writes o
-  pub put : 1 ≤ length logged → after ≡ putAt logged 0 (handed (writes o))

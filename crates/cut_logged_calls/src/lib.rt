@@ -12,10 +12,11 @@ use writer::begin;
 use writer_finish::finish;
 use writer_push::push;
 ghost use mathlib.Core.Path.{_≡_};
-ghost use lib.ListN.{length, replicate};
+ghost use lib.ListN.{replicate};
 ghost use Rattle.writer.specs.Loading.{pushArgs};
 ghost use Rattle.writer.specs.Calls.{Good, beginOf, pushOf, finishOf};
-ghost use Rattle.cut_logged_calls.specs.LoggedCalls.{lentOf, Tally, MadeBy, Begun};
+ghost use Rattle.cut_write_log.specs.WriteLog.{emptyLog, logging};
+ghost use Rattle.cut_logged_calls.specs.LoggedCalls.{lentOf, logAfter, madeBy};
 ghost use Rattle.layout.specs.Refusals.{keyLimit};
 
 // The longest lent buffer: a block for a slot of 65,536 bytes gets 24 before it needs more.
@@ -41,7 +42,9 @@ fn begin_with(
     lent: &mut [u8],
     logged: &mut [u8],
 ) -> Made
-    ensures { λ q. ⌜ Begun slot (beginOf slot channels mode (now (lent .entry))) (now (logged .entry)) q (now (logged .exit)) ⌝ }
+    ensures { λ q. ⌜ q ≡ madeBy (beginOf slot channels mode (now (lent .entry))) (logging emptyLog (now (logged .entry))) ⌝ }
+    ensures { λ q. ⌜ now (logged .exit) ≡ logAfter (beginOf slot channels mode (now (lent .entry))) (logging emptyLog (now (logged .entry))) .bytes ⌝ }
+    ensures { λ q. ⌜ Good (q .writer) ⌝ }
 {
     let call = begin(slot, channels, mode, lent);
     let writer = call.writer;
@@ -58,7 +61,9 @@ pub fn begin_logged(
     length: usize,
     logged: &mut [u8],
 ) -> Made
-    ensures { λ q. ⌜ Begun slot (beginOf slot channels mode (lentOf length)) (now (logged .entry)) q (now (logged .exit)) ⌝ }
+    ensures { λ q. ⌜ q ≡ madeBy (beginOf slot channels mode (lentOf length)) (logging emptyLog (now (logged .entry))) ⌝ }
+    ensures { λ q. ⌜ now (logged .exit) ≡ logAfter (beginOf slot channels mode (lentOf length)) (logging emptyLog (now (logged .entry))) .bytes ⌝ }
+    ensures { λ q. ⌜ Good (q .writer) ⌝ }
 {
     let mut lent = zeros();
     let n = least(length, LENT);
@@ -77,8 +82,10 @@ fn push_with(
     j: WriteLog,
     logged: &mut [u8],
 ) -> Made
-    requires { ⌜ Good w × Tally j w (now logged) ⌝ }
-    ensures { λ q. ⌜ MadeBy (pushOf w (pushArgs channels left right (now («left_data» .entry)) (now («right_data» .entry)) last) (now (lent .entry))) j (now (logged .entry)) q (now (logged .exit)) ⌝ }
+    requires { ⌜ Good w ⌝ }
+    ensures { λ q. ⌜ q ≡ madeBy (pushOf w (pushArgs channels left right (now («left_data» .entry)) (now («right_data» .entry)) last) (now (lent .entry))) (logging j (now (logged .entry))) ⌝ }
+    ensures { λ q. ⌜ now (logged .exit) ≡ logAfter (pushOf w (pushArgs channels left right (now («left_data» .entry)) (now («right_data» .entry)) last) (now (lent .entry))) (logging j (now (logged .entry))) .bytes ⌝ }
+    ensures { λ q. ⌜ Good (q .writer) ⌝ }
 {
     let call = push(w, channels, left, right, left_data, right_data, last, lent);
     let writer = call.writer;
@@ -100,8 +107,10 @@ pub fn push_logged(
     j: WriteLog,
     logged: &mut [u8],
 ) -> Made
-    requires { ⌜ Good w × Tally j w (now logged) ⌝ }
-    ensures { λ q. ⌜ MadeBy (pushOf w (pushArgs channels left right (now («left_data» .entry)) (now («right_data» .entry)) last) (lentOf length)) j (now (logged .entry)) q (now (logged .exit)) ⌝ }
+    requires { ⌜ Good w ⌝ }
+    ensures { λ q. ⌜ q ≡ madeBy (pushOf w (pushArgs channels left right (now («left_data» .entry)) (now («right_data» .entry)) last) (lentOf length)) (logging j (now (logged .entry))) ⌝ }
+    ensures { λ q. ⌜ now (logged .exit) ≡ logAfter (pushOf w (pushArgs channels left right (now («left_data» .entry)) (now («right_data» .entry)) last) (lentOf length)) (logging j (now (logged .entry))) .bytes ⌝ }
+    ensures { λ q. ⌜ Good (q .writer) ⌝ }
 {
     let mut lent = zeros();
     let n = least(length, LENT);
@@ -120,8 +129,10 @@ pub fn push_logged(
 }
 
 fn finish_with(w: HpsWriter, lent: &mut [u8], j: WriteLog, logged: &mut [u8]) -> Made
-    requires { ⌜ Good w × Tally j w (now logged) ⌝ }
-    ensures { λ q. ⌜ MadeBy (finishOf w (now (lent .entry))) j (now (logged .entry)) q (now (logged .exit)) ⌝ }
+    requires { ⌜ Good w ⌝ }
+    ensures { λ q. ⌜ q ≡ madeBy (finishOf w (now (lent .entry))) (logging j (now (logged .entry))) ⌝ }
+    ensures { λ q. ⌜ now (logged .exit) ≡ logAfter (finishOf w (now (lent .entry))) (logging j (now (logged .entry))) .bytes ⌝ }
+    ensures { λ q. ⌜ Good (q .writer) ⌝ }
 {
     let call = finish(w, lent);
     let writer = call.writer;
@@ -132,8 +143,10 @@ fn finish_with(w: HpsWriter, lent: &mut [u8], j: WriteLog, logged: &mut [u8]) ->
 
 // Finish, with a lent buffer of so many bytes, 65,536 at most.
 pub fn finish_logged(w: HpsWriter, length: usize, j: WriteLog, logged: &mut [u8]) -> Made
-    requires { ⌜ Good w × Tally j w (now logged) ⌝ }
-    ensures { λ q. ⌜ MadeBy (finishOf w (lentOf length)) j (now (logged .entry)) q (now (logged .exit)) ⌝ }
+    requires { ⌜ Good w ⌝ }
+    ensures { λ q. ⌜ q ≡ madeBy (finishOf w (lentOf length)) (logging j (now (logged .entry))) ⌝ }
+    ensures { λ q. ⌜ now (logged .exit) ≡ logAfter (finishOf w (lentOf length)) (logging j (now (logged .entry))) .bytes ⌝ }
+    ensures { λ q. ⌜ Good (q .writer) ⌝ }
 {
     let mut lent = zeros();
     let n = least(length, LENT);

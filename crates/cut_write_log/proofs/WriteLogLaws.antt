@@ -1,25 +1,92 @@
 -- Writes logged one after the other.
 use Prim.Native.Nat.{ℕ, _+_, _-_, _<_, _≤_}
 use mathlib.Core.Path.{_≡_, refl, ap, sym, _∙_}
-use mathlib.Core.Bool.{Bool, false}
+use mathlib.Core.Bool.{true, false}
 use mathlib.Core.List.{List, [], _∷_, _++_, append-assoc, append-nil}
 use native.Mathlib.Omega.{arith}
+use native.Mathlib.Nat.{zero-add}
 use native.Mathlib.Numerals.{add-one}
 use lib.ListN.{length, take, drop, set, length-append, length-drop, length-set, length-replicate, take-append-drop}
 use lib.Seq.{take-suc-set, length-take-le, take-append-le, drop-append-le, take-at, drop-at, drop-drop}
-use lib.Dec.{leb}
+use lib.Dec.{ltb, leb}
+use borrow.Author.Tests.{lt-ltb, le-ltb, le-leb, lt-leb, ltb-true, leb-true}
+use Rattle.layout.specs.Choice.{_and_}
 use Rattle.layout.specs.Lists.{sum, put}
 use Rattle.layout.specs.Puts.{putAt}
-use Rattle.layout.proofs.FieldLaws.{failed}
+use Rattle.layout.proofs.Cases.{by-cases, and-true}
 use Rattle.layout.proofs.PutLaws.{putAt-in, putAt-length, putAt-none, putAt-next}
 use Rattle.writer.specs.WritesAndCuttingRule.{Write, write, handed, writesIn, mostWrites}
 use Rattle.writer.specs.declared.Place.{Place}
-use Rattle.cut_write_log.specs.WriteLog.{noPlace, emptyLog, loggedWrites, sizes, Listed, Room, Logs}
+use Rattle.cut_write_log.specs.WriteLog.{noPlace, emptyLog, Logging, roomFor, withWrite, logOne, logAll, loggedWrites, sizes, Listed}
 use Rattle.cut_write_log.specs.declared.WriteLog.{WriteLog}
 
--- A test of the room that fails.
-pub no-room : {t : Bool} {m n : ℕ} → t ≡ leb m n → t ≡ false → m ≤ n → ⊥
-no-room {t} {m} {n} e f h = let l : n < m = failed e f in omega arith
+-- Room for writes more, whose bytes lie in a lent buffer from its start.
+pub record Room (j : WriteLog) (logged lent : List ℕ) (ps : List Place) : Type 0 where
+  pub few : j .count + length ps ≤ mostWrites
+  pub handed : sizes ps ≤ length lent
+  pub space : j .total + sizes ps ≤ length logged
+
+-- They are logged after the others, and their bytes are put after those of the others.
+pub record Logs (j : WriteLog) (logged lent : List ℕ) (ps : List Place) (q : WriteLog) (after : List ℕ) : Type 0 where
+  pub count : q .count ≡ j .count + length ps
+  pub total : q .total ≡ j .total + sizes ps
+  pub put : after ≡ putAt logged (j .total) (handed (writesIn ps lent))
+  pub listed : Listed q after
+  pub is : loggedWrites q after ≡ loggedWrites j logged ++ writesIn ps lent
+
+-- ---- Room for a write more, or none
+
+module _ (g : Logging) (lent : List ℕ) (from : ℕ) (p : Place) where
+  one-logged : g .log .count < mostWrites → from + p .length ≤ length lent → g .log .total + p .length ≤ length (g .bytes)
+      → logOne g lent from p ≡ record { log = withWrite (g .log) p; bytes = putAt (g .bytes) (g .log .total) (take (p .length) (drop from lent)) }
+  unfolding logOne
+  one-logged few here room =
+      rw (lt-ltb (g .log .count) mostWrites few, le-leb (from + p .length) (length lent) here, le-leb (g .log .total + p .length) (length (g .bytes)) room)
+
+  pub is-logged : {b : List ℕ} → g .log .count < mostWrites → from + p .length ≤ length lent → g .log .total + p .length ≤ length (g .bytes)
+      → b ≡ putAt (g .bytes) (g .log .total) (take (from + p .length - from) (drop from lent)) → record { log = withWrite (g .log) p; bytes = b } ≡ logOne g lent from p
+  is-logged few here room e = let n : from + p .length - from ≡ p .length = omega arith in rw (e, n) (sym (one-logged few here room))
+
+  pub log-full : mostWrites ≤ g .log .count → g ≡ logOne g lent from p
+  unfolding logOne
+  log-full h = rw (le-ltb (g .log .count) mostWrites h)
+
+  pub not-lent : length lent < from + p .length → g ≡ logOne g lent from p
+  unfolding logOne
+  not-lent h = by-cases (ltb (g .log .count) mostWrites) (λ t. rw (t, lt-leb (from + p .length) (length lent) h)) (λ t. rw t)
+
+  pub bytes-full : length (g .bytes) < g .log .total + p .length → g ≡ logOne g lent from p
+  unfolding logOne
+  bytes-full h =
+      by-cases (ltb (g .log .count) mostWrites)
+      (λ t. by-cases (leb (from + p .length) (length lent)) (λ u. rw (t, u, lt-leb (g .log .total + p .length) (length (g .bytes)) h)) (λ u. rw (t, u)))
+      (λ t. rw t)
+
+-- ---- A reply's writes
+
+module _ (g : Logging) (lent : List ℕ) where
+  pub three-logged : {g₁ g₂ g₃ : Logging} (p q s : Place) → g₁ ≡ logOne g lent 0 p → g₂ ≡ logOne g₁ lent (p .length) q → g₃ ≡ logOne g₂ lent (p .length + q .length) s
+      → g₃ ≡ logAll g lent 0 (p ∷ q ∷ s ∷ [])
+  unfolding logAll
+  three-logged p q s e₁ e₂ e₃ = e₃ ∙ rw (e₂, e₁, zero-add)
+
+  -- The bytes of the second do not lie in the lent buffer, so those of the third do not.
+  pub first-logged : {g₁ : Logging} (p q s : Place) → length lent < p .length + q .length → g₁ ≡ logOne g lent 0 p → g₁ ≡ logAll g lent 0 (p ∷ q ∷ s ∷ [])
+  unfolding logAll
+  first-logged {g₁} p q s h e =
+      rw (← e, zero-add, ← not-lent g₁ lent (p .length) q h) (not-lent g₁ lent (p .length + q .length) s (omega arith))
+
+  module _ {rs : List Place} where
+    pub none-logged : rs ≡ [] → (g .log ≡ logAll g lent 0 rs .log) × (g .bytes ≡ logAll g lent 0 rs .bytes)
+    unfolding logAll
+    none-logged e = (rw e, rw e)
+
+    pub one-write : {q : Logging} {p : Place} → rs ≡ p ∷ [] → q ≡ logOne g lent 0 p → (q .log ≡ logAll g lent 0 rs .log) × (q .bytes ≡ logAll g lent 0 rs .bytes)
+    unfolding logAll
+    one-write e h = (rw (e, h), rw (e, h))
+
+    pub all-logged : {q : Logging} {ps : List Place} → rs ≡ ps → q ≡ logAll g lent 0 ps → (q .log ≡ logAll g lent 0 rs .log) × (q .bytes ≡ logAll g lent 0 rs .bytes)
+    all-logged e h = (rw (e, h), rw (e, h))
 
 -- ---- Lists of writes
 
@@ -93,7 +160,7 @@ module _ {j : WriteLog} {logged : List ℕ} (l : Listed j logged) (p : Place) (b
       rw (append-assoc, drop-at fore (bs ++ drop (j .total + length bs) logged) (j .total) fore-length)
       (take-at bs (drop (j .total + length bs) logged) (p .length) size)
 
-  pub listed-one : {b : List ℕ} → b ≡ putAt logged (j .total) bs → Listed (record { count = j .count + 1; total = j .total + p .length; places = set (j .places) (j .count) p }) b
+  pub listed-one : {b : List ℕ} → b ≡ putAt logged (j .total) bs → Listed (withWrite j p) b
   unfolding former sizes sum
   listed-one {b} e =
       let n : length b ≡ length logged = ap length e ∙ putAt-length logged (j .total) bs in
@@ -105,7 +172,7 @@ module _ {j : WriteLog} {logged : List ℕ} (l : Listed j logged) (p : Place) (b
       }
 
   pub logs-one : {b lent : List ℕ} → b ≡ putAt logged (j .total) bs → take (p .length) lent ≡ bs
-      → Logs j logged lent (p ∷ []) (record { count = j .count + 1; total = j .total + p .length; places = set (j .places) (j .count) p }) b
+      → Logs j logged lent (p ∷ []) (withWrite j p) b
   unfolding loggedWrites former after sizes sum handed writesIn
   logs-one {b} {lent} e f =
       let i : b ≡ after = e ∙ putAt-in logged (j .total) bs (omega arith) in
@@ -118,26 +185,24 @@ module _ {j : WriteLog} {logged : List ℕ} (l : Listed j logged) (p : Place) (b
       }
 
 -- The bytes of a lent buffer from a place on.
-module _ {j : WriteLog} {logged : List ℕ} (l : Listed j logged) (p : Place) (lent : List ℕ) (from : ℕ) {b : List ℕ} (few : j .count < mostWrites) (here : from + p .length ≤ length lent) (room : j .total + p .length ≤ length logged) (e : b ≡ putAt logged (j .total) (take (from + p .length - from) (drop from lent))) where
-  part-length : length (take (p .length) (drop from lent)) ≡ p .length
-  part-length = length-take-le (p .length) (drop from lent) (omega (arith, length-drop from lent))
+module _ (g : Logging) (lent : List ℕ) (from : ℕ) (p : Place) (l : Listed (g .log) (g .bytes)) where
+  part-length : from + p .length ≤ length lent → length (take (p .length) (drop from lent)) ≡ p .length
+  part-length here = length-take-le (p .length) (drop from lent) (omega (arith, length-drop from lent))
 
-  is-part : b ≡ putAt logged (j .total) (take (p .length) (drop from lent))
-  is-part = let n : from + p .length - from ≡ p .length = omega arith in e ∙ rw n
+  listed-more : Listed (logOne g lent from p .log) (logOne g lent from p .bytes)
+  unfolding logOne
+  listed-more =
+      by-cases (roomFor g lent from p)
+      (λ t.
+      let a = and-true (ltb (g .log .count) mostWrites) _ t in
+      let b = and-true (leb (from + p .length) (length lent)) _ (a .1) in
+      let here = leb-true (from + p .length) (length lent) (b .0) in
+      rw t (listed-one l p _ (ltb-true (g .log .count) mostWrites (a .0)) (part-length here) (leb-true (g .log .total + p .length) (length (g .bytes)) (b .1)) refl))
+      (λ t. rw t l)
 
-  pub listed-part : Listed (record { count = j .count + 1; total = j .total + p .length; places = set (j .places) (j .count) p }) b
-  listed-part = listed-one l p (take (p .length) (drop from lent)) few part-length room is-part
-
-  pub logs-part : Logs j logged (drop from lent) (p ∷ []) (record { count = j .count + 1; total = j .total + p .length; places = set (j .places) (j .count) p }) b
-  logs-part = logs-one l p (take (p .length) (drop from lent)) few part-length room is-part refl
-
-pub room-logged : {j : WriteLog} {logged lent : List ℕ} {p : Place} → Room j logged lent (p ∷ []) → j .total + p .length ≤ length logged
-unfolding sizes sum
-room-logged r = let h = r .space in omega arith
-
-pub room-lent : {j : WriteLog} {logged : List ℕ} (lent : List ℕ) {p : Place} (from : ℕ) → from ≤ length lent → Room j logged (drop from lent) (p ∷ []) → from + p .length ≤ length lent
-unfolding sizes sum
-room-lent lent from here r = let h = r .handed in omega (arith, length-drop from lent)
+  logs-more : g .log .count < mostWrites → from + p .length ≤ length lent → g .log .total + p .length ≤ length (g .bytes)
+      → Logs (g .log) (g .bytes) (drop from lent) (p ∷ []) (logOne g lent from p .log) (logOne g lent from p .bytes)
+  logs-more few here room = rw (one-logged g lent from p few here room) (logs-one l p _ few (part-length here) room refl refl)
 
 -- ---- One after the other
 
@@ -167,46 +232,32 @@ module _ {j : WriteLog} {logged lent : List ℕ} where
         is = b .is ∙ rw (a .is, e, writes-join ps qs lent, append-assoc);
       }
 
-  -- What is room for the second is room after the first.
-  pub room-first : {ps : List Place} (qs : List Place) → Room j logged lent (ps ++ qs) → Room j logged lent ps
-  room-first {ps} qs r = let n = length-append ps qs in let m = sizes-join ps qs in record { few = omega (arith, r .few); handed = omega (arith, r .handed); space = omega (arith, r .space) }
-
-  pub room-then : {ps : List Place} (qs : List Place) {q : WriteLog} {k : List ℕ} {n : ℕ} → n ≡ sizes ps → Logs j logged lent ps q k → Room j logged lent (ps ++ qs) → Room q k (drop n lent) qs
+  -- What is room for all is room for the others after the first.
+  room-then : {ps : List Place} (qs : List Place) {q : WriteLog} {k : List ℕ} {n : ℕ} → n ≡ sizes ps → Logs j logged lent ps q k → Room j logged lent (ps ++ qs) → Room q k (drop n lent) qs
   room-then {ps} qs {n = n} e a r =
       let i = length-append ps qs in
       let m = sizes-join ps qs in
       record { few = omega (arith, r .few, a .count); handed = omega (arith, r .handed, length-drop n lent); space = omega (arith, r .space, a .total, logs-long a) }
 
--- ---- Three writes
+-- ---- All writes of a list
 
--- What noting one write gives.
-abbrev One : (j : WriteLog) (logged lent : List ℕ) (from : ℕ) (p : Place) (q : WriteLog) (after : List ℕ) → Type 0
-One j logged lent from p q after = from ≤ length lent → Room j logged (drop from lent) (p ∷ []) → Logs j logged (drop from lent) (p ∷ []) q after
+pub listed-all : (ps : List Place) (g : Logging) (lent : List ℕ) (from : ℕ) → Listed (g .log) (g .bytes) → Listed (logAll g lent from ps .log) (logAll g lent from ps .bytes)
+unfolding logAll
+listed-all [] g lent from l = l
+listed-all (p ∷ ps) g lent from l = listed-all ps (logOne g lent from p) lent (from + p .length) (listed-more g lent from p l)
 
-module _ {j : WriteLog} {logged lent : List ℕ} {p q s : Place} (r : Room j logged lent (p ∷ q ∷ s ∷ [])) where
-  pub two-handed : p .length + q .length ≤ length lent
-  unfolding sizes sum
-  two-handed = let h = r .handed in omega arith
+-- Where there is room for all, all are logged.
+logs-from : (ps : List Place) (g : Logging) (lent : List ℕ) (from : ℕ) → from ≤ length lent → Listed (g .log) (g .bytes) → Room (g .log) (g .bytes) (drop from lent) ps
+    → Logs (g .log) (g .bytes) (drop from lent) ps (logAll g lent from ps .log) (logAll g lent from ps .bytes)
+unfolding logAll sizes sum
+logs-from [] g lent from h l r = logs-none l
+logs-from (p ∷ ps) g lent from h l r =
+    let n : p .length ≡ sizes (p ∷ []) = omega arith in
+    let here : from + p .length ≤ length lent = omega (arith, r .handed, length-drop from lent) in
+    let a = logs-more g lent from p l (omega (arith, r .few)) here (omega (arith, r .space)) in
+    let b = logs-from ps (logOne g lent from p) lent (from + p .length) here (a .listed) (rw drop-drop at (room-then ps n a r)) in
+    logs-then n (r .handed) a (rw drop-drop b)
 
-  pub logs-three : {q₁ q₂ q₃ : WriteLog} {k₁ k₂ k₃ : List ℕ} → One j logged lent 0 p q₁ k₁ → One q₁ k₁ lent (p .length) q q₂ k₂ → One q₂ k₂ lent (p .length + q .length) s q₃ k₃
-      → Logs j logged lent (p ∷ q ∷ s ∷ []) q₃ k₃
-  unfolding sizes sum
-  logs-three f₁ f₂ f₃ =
-      let few = two-handed in
-      let n : p .length ≡ sizes (p ∷ []) = omega arith in
-      let m : q .length ≡ sizes (q ∷ []) = omega arith in
-      let a = f₁ (omega arith) (room-first (q ∷ s ∷ []) r) in
-      let r₁ = room-then (q ∷ s ∷ []) n a r in
-      let b = f₂ (omega arith) (room-first (s ∷ []) r₁) in
-      let c = f₃ few (rw drop-drop at (room-then (s ∷ []) m b r₁)) in
-      logs-then n (r .handed) a (logs-then m (r₁ .handed) b (rw drop-drop c))
-
--- ---- A reply's writes
-
-module _ {j : WriteLog} {logged lent : List ℕ} {rs : List Place} where
-  pub none-logged : rs ≡ [] → Listed j logged → Logs j logged lent rs j logged
-  none-logged e l = rw e (logs-none l)
-
-  pub all-logged : {ps : List Place} {q : WriteLog} {after : List ℕ} → rs ≡ ps → (Room j logged lent ps → Logs j logged lent ps q after)
-      → Room j logged lent rs → Logs j logged lent rs q after
-  all-logged e h r = rw e (h (rw e at r))
+pub logs-all : (ps : List Place) (g : Logging) (lent : List ℕ) → Listed (g .log) (g .bytes) → Room (g .log) (g .bytes) lent ps
+    → Logs (g .log) (g .bytes) lent ps (logAll g lent 0 ps .log) (logAll g lent 0 ps .bytes)
+logs-all ps g lent l r = logs-from ps g lent 0 (omega arith) l r

@@ -6,10 +6,8 @@ use writer::Place;
 use writer::Reply;
 ghost use mathlib.Core.Path.{_≡_};
 ghost use mathlib.Core.List.{[], _∷_};
-ghost use Prim.Native.Nat.{_≤_};
-ghost use lib.ListN.{length, drop};
 ghost use Rattle.writer.specs.Calls.{placesIn};
-ghost use Rattle.cut_write_log.specs.WriteLog.{emptyLog, Listed, Room, Logs};
+ghost use Rattle.cut_write_log.specs.WriteLog.{emptyLog, logging, logOne, logAll};
 
 // As many writes as a loading hands out.
 pub struct WriteLog {
@@ -34,9 +32,7 @@ pub fn empty_log() -> WriteLog
 
 // A write more, whose bytes lie in the lent buffer from here on. Where there is no room, nothing is logged.
 fn log_write(j: WriteLog, place: Place, lent: &[u8], from: usize, logged: &mut [u8]) -> WriteLog
-    requires { ⌜ Listed j (now logged) ⌝ }
-    ensures { λ q. ⌜ (from ≤ length (now (lent .entry)) → Room j (now (logged .entry)) (drop from (now (lent .entry))) (place ∷ []) → Logs j (now (logged .entry)) (drop from (now (lent .entry))) (place ∷ []) q (now (logged .exit))) ⌝ }
-    ensures { λ q. ⌜ Listed q (now (logged .exit)) ⌝ }
+    ensures { λ q. ⌜ logging q (now (logged .exit)) ≡ logOne (logging j (now (logged .entry))) (now (lent .entry)) from place ⌝ }
 {
     let i = j.count;
     let at = j.total;
@@ -59,7 +55,7 @@ fn log_write(j: WriteLog, place: Place, lent: &[u8], from: usize, logged: &mut [
     j
 }
 
-// Three writes one after the other.
+// Three writes one after the other. Where the second's bytes do not lie in the lent buffer, the third's do not.
 fn log_three(
     j: WriteLog,
     start: Place,
@@ -68,8 +64,7 @@ fn log_three(
     lent: &[u8],
     logged: &mut [u8],
 ) -> WriteLog
-    requires { ⌜ Listed j (now logged) ⌝ }
-    ensures { λ q. ⌜ (Room j (now (logged .entry)) (now (lent .entry)) (start ∷ rest ∷ mark ∷ []) → Logs j (now (logged .entry)) (now (lent .entry)) (start ∷ rest ∷ mark ∷ []) q (now (logged .exit))) ⌝ }
+    ensures { λ q. ⌜ logging q (now (logged .exit)) ≡ logAll (logging j (now (logged .entry))) (now (lent .entry)) 0 (start ∷ rest ∷ mark ∷ []) ⌝ }
 {
     if inside(lent.len(), start.length, rest.length) {
         let end = start.length + rest.length;
@@ -77,13 +72,12 @@ fn log_three(
         let two = log_write(one, rest, lent, start.length, logged);
         return log_write(two, mark, lent, end, logged);
     }
-    j
+    log_write(j, start, lent, 0, logged)
 }
 
 // The writes that a call's reply hands out.
 pub fn log_reply(j: WriteLog, reply: Reply, lent: &[u8], logged: &mut [u8]) -> WriteLog
-    requires { ⌜ Listed j (now logged) ⌝ }
-    ensures { λ q. ⌜ (Room j (now (logged .entry)) (now (lent .entry)) (placesIn reply) → Logs j (now (logged .entry)) (now (lent .entry)) (placesIn reply) q (now (logged .exit))) ⌝ }
+    ensures { λ q. ⌜ (q ≡ logAll (logging j (now (logged .entry))) (now (lent .entry)) 0 (placesIn reply) .log) × (now (logged .exit) ≡ logAll (logging j (now (logged .entry))) (now (lent .entry)) 0 (placesIn reply) .bytes) ⌝ }
 {
     match reply {
         Reply::Refused(_) => j,

@@ -2,7 +2,7 @@
 use Prim.Native.Nat.{ℕ, suc, _+_, _-_, _<_, _≤_}
 use mathlib.Core.Path.{_≡_}
 use mathlib.Core.List.{List, [], _∷_}
-use lib.ListN.{length, take}
+use lib.ListN.{length, take, drop}
 use lib.Dec.{leb}
 use Rattle.layout.specs.Choice.{pick}
 use Rattle.layout.specs.Lists.{All, put}
@@ -24,6 +24,15 @@ unfoldable pub slotAt : List ℕ → List Write → (moment : ℕ) → List ℕ
 slotAt s [] m = s
 slotAt s (w ∷ ws) m =
     pick (leb (length (w .bytes)) m) (slotAt (reached s w (length (w .bytes))) ws (m - length (w .bytes))) (reached s w m)
+
+-- One byte more of a write of which the first k have reached the slot.
+unfoldable pub reachedNext : List ℕ → Write → (k : ℕ) → List ℕ
+reachedNext s w k = pick (leb (w .offset + length (w .bytes)) (length s)) (put s (w .offset + k) (take 1 (drop k (w .bytes)))) s
+
+-- One byte more of a list of writes: the first that has not reached the slot at this moment.
+unfoldable pub nextByte : List ℕ → List Write → (moment : ℕ) → List ℕ
+nextByte s [] m = s
+nextByte s (w ∷ ws) m = pick (leb (length (w .bytes)) m) (nextByte s ws (m - length (w .bytes))) (reachedNext s w m)
 
 -- How many writes have taken at a moment.
 unfoldable pub takenAt : List Write → (moment : ℕ) → ℕ

@@ -5,11 +5,10 @@ use layout_put::put_bytes;
 use writer::MOST_WRITES;
 use writer::Place;
 ghost use mathlib.Core.Path.{_≡_};
-ghost use mathlib.Core.List.{List};
-ghost use Prim.Native.Nat.{ℕ, _+_, _≤_};
-ghost use lib.ListN.{length, take};
+ghost use Prim.Native.Nat.{_≤_};
+ghost use lib.ListN.{take};
 ghost use Rattle.writer.specs.WritesAndCuttingRule.{write, writesIn, mostWrites};
-ghost use Rattle.power_cut_moments.specs.Moments.{reached, slotAt, EveryMoment, PowerCutAtMoments};
+ghost use Rattle.power_cut_moments.specs.Moments.{reached, slotAt, reachedNext, nextByte, EveryMoment, PowerCutAtMoments};
 
 // Every moment is one of the cuts that the theorems speak of.
 pub fn every_moment()
@@ -31,9 +30,9 @@ pub fn reach(slot: &mut [u8], at: usize, bytes: &[u8], n: usize)
     }
 }
 
-// One byte more, where the first k have reached the slot.
+// One byte more of a write, where the first k have reached the slot.
 fn reach_next(slot: &mut [u8], at: usize, bytes: &[u8], k: usize)
-    ensures { λ _. ⌜ ((s : List ℕ) → now (slot .entry) ≡ reached s (write at (now (bytes .entry))) k → now (slot .exit) ≡ reached s (write at (now (bytes .entry))) (k + 1)) ⌝ }
+    ensures { λ _. ⌜ now (slot .exit) ≡ reachedNext (now (slot .entry)) (write at (now (bytes .entry))) k ⌝ }
 {
     if inside(slot.len(), at, bytes.len()) {
         if k < bytes.len() {
@@ -94,7 +93,7 @@ fn next_first(
     moment: usize,
 )
     requires { ⌜ count ≤ mostWrites ⌝ }
-    ensures { λ _. ⌜ ((s : List ℕ) → now (slot .entry) ≡ slotAt s (writesIn (take count places) (now (bytes .entry))) moment → now (slot .exit) ≡ slotAt s (writesIn (take count places) (now (bytes .entry))) (moment + 1)) ⌝ }
+    ensures { λ _. ⌜ now (slot .exit) ≡ nextByte (now (slot .entry)) (writesIn (take count places) (now (bytes .entry))) moment ⌝ }
 {
     let mut i: usize = 0;
     let mut at: usize = 0;
@@ -113,7 +112,7 @@ fn next_first(
     }
 }
 
-// The slot at the moment after this one.
+// One byte more of the writes: a slot at this moment goes on to the next.
 pub fn next_moment(
     slot: &mut [u8],
     places: [Place; MOST_WRITES],
@@ -121,7 +120,7 @@ pub fn next_moment(
     bytes: &[u8],
     moment: usize,
 )
-    ensures { λ _. ⌜ ((s : List ℕ) → now (slot .entry) ≡ slotAt s (writesIn (take count places) (now (bytes .entry))) moment → now (slot .exit) ≡ slotAt s (writesIn (take count places) (now (bytes .entry))) (moment + 1)) ⌝ }
+    ensures { λ _. ⌜ now (slot .exit) ≡ nextByte (now (slot .entry)) (writesIn (take count places) (now (bytes .entry))) moment ⌝ }
 {
     let most = least(count, MOST_WRITES);
     next_first(slot, places, most, bytes, moment);

@@ -1,12 +1,12 @@
 -- A script's begin, and its calls after it.
-use Prim.Native.Nat.{ℕ, _≤_, _+_}
-use mathlib.Core.Path.{_≡_, ap, sym, _∙_}
+use Prim.Native.Nat.{ℕ, _+_, _<_, _≤_}
+use mathlib.Core.Path.{_≡_, refl, ap, sym, _∙_}
 use mathlib.Core.Bool.{Bool, true, false}
-use mathlib.Core.List.{List, _++_}
+use mathlib.Core.List.{List, []}
 use native.Mathlib.Omega.{arith}
 use lib.ListN.{length, drop}
 use lib.Dec.{eqb, ltb}
-use borrow.Author.Tests.{eqb-true, ltb-false}
+use borrow.Author.Tests.{eqb-true, ltb-false, lt-ltb, le-ltb}
 use Rattle.layout.proofs.Cases.{by-cases, apart, or-false}
 use Rattle.script_words.specs.Texts.{lineOf, linesAfter, linesOf}
 use Rattle.script_lines.specs.Lines.{beginLine}
@@ -14,26 +14,27 @@ use Rattle.script_lines.specs.declared.lines.BeginLine.{BeginLine}
 use Rattle.script_groups.specs.Order.{Starts}
 use Rattle.script_groups.specs.declared.Start.{Start}
 use Rattle.writer.specs.Loading.{refused, accepted, beginRefusal}
-use Rattle.writer.specs.Calls.{Outcome, beginOf, answerOf}
+use Rattle.writer.specs.Calls.{Outcome, placesIn, beginOf, answerOf}
+use Rattle.writer.specs.declared.Reply.{Reply}
+use Rattle.writer.specs.declared.Reply.the-variants.{Refused, NoWrite, OneWrite, ThreeWrites}
 use Rattle.writer.proofs.DueLaws.{passed-begin}
-use Rattle.power_cut.specs.PowerCut.{writesOf}
-use Rattle.cut_write_log.specs.WriteLog.{loggedWrites}
-use Rattle.cut_logged_calls.specs.LoggedCalls.{lentOf, Tally, Begun, logSize}
+use Rattle.cut_write_log.specs.WriteLog.{emptyLog, Logging, logging, logAll}
+use Rattle.cut_logged_calls.specs.LoggedCalls.{lentOf, logAfter, logSize}
 use Rattle.cut_logged_calls.specs.declared.Made.{Made}
-use Rattle.script_run.specs.Script.{begunLength, begins, callsIn, callsOf, scriptWrites}
-use Rattle.script_run.specs.Running.{isRefused, refusedReply, Loads}
+use Rattle.script_run.specs.Script.{begunLength, begins, callsIn, callsOf, scriptLimit}
+use Rattle.script_run.specs.Running.{logRun, scriptLog, isRefused, refusedReply, beginRefused, begunLog, notRun, loadLog, loadedBy, CallMade}
 use Rattle.script_run.specs.declared.loading.Loaded.{Loaded}
 use Rattle.layout.specs.Refusals.{slotLimit, slotLeast, keyLimit}
 
 -- Begin's answer is a refusal, or 0; a slot of more than 65,536 bytes is refused.
-begin-accepted : (n ch : ℕ) (b : BeginLine) (lent : List ℕ) → isRefused (answerOf (beginOf n ch (b .mode) lent)) ≡ false → (beginRefusal n ch (length lent) ≡ 0) × (answerOf (beginOf n ch (b .mode) lent) ≡ accepted 0)
+pub begin-accepted : (n ch : ℕ) (b : BeginLine) (lent : List ℕ) → isRefused (answerOf (beginOf n ch (b .mode) lent)) ≡ false → (beginRefusal n ch (length lent) ≡ 0) × (answerOf (beginOf n ch (b .mode) lent) ≡ accepted 0)
 unfolding beginOf
 begin-accepted n ch b lent h =
     by-cases (eqb (beginRefusal n ch (length lent)) 0)
     (λ q. (eqb-true _ 0 q, rw q))
     (λ q. apart (rw q at h))
 
-small-slot : (slot ch lent : ℕ) → beginRefusal (begunLength slot) ch lent ≡ 0 → begunLength slot ≤ keyLimit
+pub small-slot : (slot ch lent : ℕ) → beginRefusal (begunLength slot) ch lent ≡ 0 → begunLength slot ≤ keyLimit
 small-slot slot ch lent h =
     let e = or-false (ltb slotLimit (begunLength slot)) (ltb (begunLength slot) slotLeast) (passed-begin _ _ _ h .no7) in
     by-cases (ltb keyLimit slot)
@@ -50,31 +51,62 @@ own-length slot ch b lent a =
 abbrev beginBy : (n : ℕ) → BeginLine → Start → Outcome
 beginBy n b st = beginOf n (b .channels) (b .mode) (lentOf (st .lent))
 
-module _ (slot : ℕ) {n : ℕ} {s line : List ℕ} {st : Start} {b : BeginLine} {r : Bool} {logged : List ℕ} {m : Made} {after : List ℕ} (start : Starts s keyLimit st) (el : line ≡ lineOf (drop (st .at) s)) (eb : b ≡ beginLine line) (en : n ≡ begunLength slot) (made : Begun n (beginBy n b st) logged m after) (er : r ≡ refusedReply (m .reply)) where
+-- A refused call hands out no write.
+refused-places : (r : Reply) → refusedReply r ≡ true → placesIn r ≡ []
+refused-places (Refused n) h = refl
+refused-places NoWrite h = apart (sym h)
+refused-places (OneWrite p) h = apart (sym h)
+refused-places (ThreeWrites n p q r) h = apart (sym h)
+
+refused-log : (o : Outcome) (g : Logging) → isRefused (answerOf o) ≡ true → logAfter o g ≡ g
+unfolding logAfter logAll
+refused-log o g h = rw (refused-places (o .reply) h)
+
+-- What a script's calls leave.
+abbrev Leaves : (slot : ℕ) → (s logged : List ℕ) → Loaded → List ℕ → Type 0
+Leaves slot s logged q k = (q ≡ record { refused = beginRefused slot s; log = begunLog slot s logged .log }) × (k ≡ begunLog slot s logged .bytes)
+
+module _ (slot : ℕ) (logged : List ℕ) {n : ℕ} {s line : List ℕ} {st : Start} {b : BeginLine} {r : Bool} {m : Made} {after : List ℕ} (start : Starts s keyLimit st) (el : line ≡ lineOf (drop (st .at) s)) (eb : b ≡ beginLine line) (en : n ≡ begunLength slot) (made : CallMade (beginBy n b st) (logging emptyLog logged) m after) (er : r ≡ refusedReply (m .reply)) where
   is-begins : beginBy n b st ≡ begins slot s
   unfolding begins
   is-begins = rw (en, eb, el, start .line, start .buffer)
 
-  answer-is : r ≡ isRefused (answerOf (begins slot s))
-  answer-is = er ∙ ap refusedReply (made .reply) ∙ ap (λ (x : Outcome). isRefused (answerOf x)) is-begins
+  answer-is : r ≡ beginRefused slot s
+  answer-is = er ∙ rw (made .0) (ap (λ (x : Outcome). isRefused (answerOf x)) is-begins)
 
-  pub loads-nothing : {q : Loaded} {k : List ℕ} → r ≡ true → q .refused ≡ true → Loads slot s q k
-  loads-nothing t e = record { refused = e ∙ sym t ∙ answer-is; is = λ f. apart (sym e ∙ f) }
+  pub loads-nothing : {q : Loaded} → r ≡ true → q ≡ record { refused = true; log = emptyLog } → Leaves slot s logged q after
+  unfolding begunLog
+  loads-nothing t e =
+      let a : beginRefused slot s ≡ true = sym answer-is ∙ t in
+      (e ∙ rw a, made .1 .0 ∙ rw (is-begins, refused-log (begins slot s) (logging emptyLog logged) a, a))
 
-  module _ (a : r ≡ false) (room : logSize ≤ length logged) where
-    fine : (beginRefusal n (b .channels) (length (lentOf (st .lent))) ≡ 0) × (answerOf (beginBy n b st) ≡ accepted 0)
-    fine = begin-accepted n (b .channels) b (lentOf (st .lent)) (ap refusedReply (sym (made .reply)) ∙ sym er ∙ a)
+  pub loads-all : (next : ℕ) {q : Loaded} {k : List ℕ} → r ≡ false → drop next s ≡ linesAfter (drop (st .at) s)
+      → (q ≡ record { refused = false; log = logRun (m .writer) (logging (m .log) after) (callsIn (st .lent) (linesOf (drop next s))) .log }) × (k ≡ logRun (m .writer) (logging (m .log) after) (callsIn (st .lent) (linesOf (drop next s))) .bytes)
+      → Leaves slot s logged q k
+  unfolding begunLog scriptLog callsOf
+  loads-all next f d h =
+      let a : beginRefused slot s ≡ false = sym answer-is ∙ f in
+      let e : logRun (m .writer) (logging (m .log) after) (callsIn (st .lent) (linesOf (drop next s))) ≡ scriptLog slot s logged =
+      rw (made .0, made .1 .0, is-begins, d, start .rest, start .buffer) in
+      (h .0 ∙ rw (a, e), h .1 ∙ rw (a, e))
 
-    pub begun-tally : Tally (m .log) (m .writer) after
-    begun-tally =
-        let small : n ≤ keyLimit = rw en (small-slot slot (b .channels) (length (lentOf (st .lent))) (rw en at (fine .0))) in
-        made .tally room small (fine .1)
+-- ---- Too long a script, too little room
 
-    pub loads-all : (next : ℕ) {q : Loaded} {k : List ℕ} → drop next s ≡ linesAfter (drop (st .at) s) → q .refused ≡ false
-        → loggedWrites (q .log) k ≡ loggedWrites (m .log) after ++ writesOf (m .writer) (callsIn (st .lent) (linesOf (drop next s))) → Loads slot s q k
-    unfolding scriptWrites callsOf
-    loads-all next d f e =
-        record {
-          refused = f ∙ sym a ∙ answer-is;
-          is = λ g. e ∙ rw (made .is (omega arith), made .writer, is-begins, d, start .rest, start .buffer);
-        }
+-- What loading it leaves.
+abbrev Loads : (slot : ℕ) → (s logged : List ℕ) → Loaded → List ℕ → Type 0
+Loads slot s logged q k = (q ≡ loadedBy slot s logged) × (k ≡ loadLog slot s logged .bytes)
+
+module _ (slot : ℕ) (s logged : List ℕ) {q : Loaded} where
+  loads-none : notRun s logged ≡ true → q ≡ record { refused = true; log = emptyLog } → Loads slot s logged q logged
+  unfolding loadLog
+  loads-none t e = (e ∙ rw t, rw t)
+
+  pub too-long : scriptLimit < length s → q ≡ record { refused = true; log = emptyLog } → Loads slot s logged q logged
+  too-long h = loads-none (rw (lt-ltb scriptLimit (length s) h))
+
+  pub too-little : length s ≤ scriptLimit → length logged < logSize → q ≡ record { refused = true; log = emptyLog } → Loads slot s logged q logged
+  too-little h l = loads-none (rw (le-ltb scriptLimit (length s) h, lt-ltb (length logged) logSize l))
+
+  pub enough : {k : List ℕ} → length s ≤ scriptLimit → logSize ≤ length logged → Leaves slot s logged q k → Loads slot s logged q k
+  unfolding loadLog
+  enough h l e = let t : notRun s logged ≡ false = rw (le-ltb scriptLimit (length s) h, le-ltb (length logged) logSize l) in (e .0 ∙ rw t, e .1 ∙ rw t)

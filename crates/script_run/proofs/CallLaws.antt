@@ -2,7 +2,7 @@
 use Prim.Native.Nat.{ℕ, _+_, _≤_}
 use mathlib.Core.Path.{_≡_, refl, ap, sym, _∙_}
 use mathlib.Core.Bool.{true}
-use mathlib.Core.List.{List, [], _∷_, append-assoc}
+use mathlib.Core.List.{List, [], _∷_}
 use native.Mathlib.Omega.{arith}
 use lib.ListN.{length, take, drop, getD, length-take, length-drop}
 use lib.Seq.{take-at}
@@ -26,19 +26,19 @@ use Rattle.script_lines.specs.declared.channels.ChannelLine.{ChannelLine}
 use Rattle.script_lines.proofs.kinds.Kind.{the-type}
 use Rattle.script_lines.proofs.LineLaws.{not-kind}
 use Rattle.script_groups.specs.Order.{sidesIn}
-use Rattle.writer.specs.Loading.{Call, cue, push, finish, has, cueRefusal, pushArgs}
-use Rattle.writer.specs.Calls.{called, held, afterCue, cueOf, pushOf, finishOf, Good}
+use Rattle.writer.specs.Loading.{Call, cue, push, finish, cueRefusal, pushArgs}
+use Rattle.writer.specs.Calls.{called, held, cueOf, pushOf, finishOf, Good}
 use Rattle.writer.specs.declared.Cue.{Cue}
 use Rattle.writer.specs.declared.HpsWriter.{HpsWriter}
 use Rattle.writer.specs.declared.Reply.{Reply}
 use Rattle.writer.specs.declared.Called.{Called}
-use Rattle.writer.proofs.ServerLaws.{cue-writes}
-use Rattle.power_cut.specs.PowerCut.{step, writesOf}
+use Rattle.power_cut.specs.PowerCut.{step}
+use Rattle.cut_write_log.specs.WriteLog.{Logging, logging, logAll}
 use Rattle.cut_write_log.specs.declared.WriteLog.{WriteLog}
-use Rattle.cut_logged_calls.specs.LoggedCalls.{lentOf, Tally, MadeBy}
+use Rattle.cut_logged_calls.specs.LoggedCalls.{lentOf, logAfter}
 use Rattle.cut_logged_calls.specs.declared.Made.{Made}
 use Rattle.script_run.specs.Script.{pushWith, pushBy, callBy, scriptLimit}
-use Rattle.script_run.specs.Running.{Makes}
+use Rattle.script_run.specs.Running.{logRun, CallMade, Makes}
 
 -- ---- Data
 
@@ -70,39 +70,35 @@ module _ (l z : List ℕ) {w b : List ℕ} {n : ℕ} (short : length l ≤ scrip
 
 -- ---- Push
 
-module _ (w : HpsWriter) (lent : List ℕ) {j : WriteLog} {logged : List ℕ} {m : Made} {after : List ℕ} where
+module _ (w : HpsWriter) (lent : List ℕ) (g : Logging) {m : Made} {after : List ℕ} where
   pub sides-made : (p : PushLine) (left right : List ℕ) {x y : ChannelLine} {d f : List ℕ} → x ≡ channelLine left → y ≡ channelLine right → d ≡ bytesSaid (dataWord left) → f ≡ bytesSaid (dataWord right)
-      → MadeBy (pushOf w (pushArgs (p .channels) (x .block) (y .block) d f (p .last)) lent) j logged m after → MadeBy (pushOf w (pushWith p left right) lent) j logged m after
+      → CallMade (pushOf w (pushArgs (p .channels) (x .block) (y .block) d f (p .last)) lent) g m after → CallMade (pushOf w (pushWith p left right) lent) g m after
   unfolding pushWith sideSaid channelLine
   sides-made p left right ex ey ed ef h = rw (ex, ey, ed, ef) at h
 
   pub push-made : (l : List ℕ) (ls : List (List ℕ)) {p : PushLine} {left right : List ℕ} → p ≡ pushLine l → left ≡ getD (sidesIn (p .channels) ls) 0 [] → right ≡ getD (sidesIn (p .channels) ls) 1 []
-      → MadeBy (pushOf w (pushWith p left right) lent) j logged m after → MadeBy (pushOf w (pushBy l ls) lent) j logged m after
+      → CallMade (pushOf w (pushWith p left right) lent) g m after → CallMade (pushOf w (pushBy l ls) lent) g m after
   unfolding pushBy
   push-made l ls ep el er h = rw (el, er, ep) at h
 
 -- ---- One call, or none
 
-module _ {w : HpsWriter} {j : WriteLog} {logged : List ℕ} where
-  makes-one : {m : Made} {after : List ℕ} (c : Call) → MadeBy (step w c) j logged m after → Makes (c ∷ []) w j logged m after
-  unfolding writesOf
-  makes-one c h =
-      record { good = h .good; tally = h .tally; is = λ later. rw (h .is, h .writer, append-assoc) }
+-- A cue hands out no write.
+pub cue-log : (w : HpsWriter) (c : Cue) (g : Logging) → logAfter (cueOf w c) g ≡ g
+unfolding logAfter logAll cueOf
+cue-log w c g = by-cases (eqb (cueRefusal (w .stream .blocks) (held w) c) 0) (λ q. rw q) (λ q. rw q)
 
-  pub makes-none : (r : Reply) → Good w → Tally j w logged → Makes [] w j logged (record { writer = w; reply = r; log = j }) logged
-  makes-none r g t = record { good = g; tally = t; is = λ later. refl }
+module _ {w : HpsWriter} where
+  makes-one : {g : Logging} {m : Made} {after : List ℕ} (c : Call) → CallMade (step w c) g m after → Makes (c ∷ []) w g m after
+  unfolding logRun
+  makes-one c h = record { good = h .1 .1; is = λ later. rw (h .0, h .1 .0) }
 
-  -- A cue leaves what is counted as it is.
-  cue-tally : (c : Cue) → Tally j w logged → Tally j (cueOf w c .writer) logged
-  unfolding cueOf afterCue
-  cue-tally c t =
-      let same : Tally j (afterCue w c) logged = by-cases (has c (held w)) (λ e. rw e t) (λ e. rw e (record { listed = t .listed; room = t .room; small = t .small; many = t .many; bytes = t .bytes })) in
-      by-cases (eqb (cueRefusal (w .stream .blocks) (held w) c) 0) (λ e. rw e same) (λ e. rw e t)
+  pub makes-none : {j : WriteLog} {logged : List ℕ} (r : Reply) → Good w → Makes [] w (logging j logged) (record { writer = w; reply = r; log = j }) logged
+  makes-none r g = record { good = g; is = λ later. refl }
 
-  pub cue-makes : (c : Cue) {q : Called} → q ≡ called (cueOf w c) → Good (q .writer) → Tally j w logged → Makes (cue c ∷ []) w j logged (record { writer = q .writer; reply = q .reply; log = j }) logged
-  unfolding writesOf
-  cue-makes c e g t =
-      record { good = g; tally = rw e (cue-tally c t); is = λ later. rw (e, cue-writes w c) }
+  pub cue-makes : (c : Cue) {q : Called} {j : WriteLog} {logged : List ℕ} → q ≡ called (cueOf w c) → Good (q .writer) → Makes (cue c ∷ []) w (logging j logged) (record { writer = q .writer; reply = q .reply; log = j }) logged
+  unfolding logRun
+  cue-makes c {j = j} {logged = logged} e g = record { good = g; is = λ later. rw e (ap (λ (l : Logging). logRun (cueOf w c .writer) l later) (sym (cue-log w c (logging j logged)))) }
 
 -- ---- By kinds
 
@@ -125,20 +121,20 @@ a-cue Kinds.Unknown o = absurd (miss cues 9 _ o)
 abbrev silent : List ℕ
 silent = 0 ∷ 1 ∷ 6 ∷ 8 ∷ 9 ∷ []
 
-module _ (k : Kind) {w : HpsWriter} {j : WriteLog} {logged : List ℕ} {m : Made} {after : List ℕ} (l : List ℕ) (n : ℕ) (ls : List (List ℕ)) where
-  pub make-push : k ≡ Kinds.Push → MadeBy (pushOf w (pushBy l ls) (lentOf n)) j logged m after → Makes (callBy k l n ls) w j logged m after
+module _ (k : Kind) {w : HpsWriter} {g : Logging} {m : Made} {after : List ℕ} (l : List ℕ) (n : ℕ) (ls : List (List ℕ)) where
+  pub make-push : k ≡ Kinds.Push → CallMade (pushOf w (pushBy l ls) (lentOf n)) g m after → Makes (callBy k l n ls) w g m after
   unfolding callBy
   make-push e h = rw e (makes-one (push (pushBy l ls) (lentOf n)) h)
 
-  pub make-finish : k ≡ Kinds.Finish → MadeBy (finishOf w (lentOf n)) j logged m after → Makes (callBy k l n ls) w j logged m after
+  pub make-finish : k ≡ Kinds.Finish → CallMade (finishOf w (lentOf n)) g m after → Makes (callBy k l n ls) w g m after
   unfolding callBy
   make-finish e h = rw e (makes-one (finish (lentOf n)) h)
 
-  pub make-cue : OneOf cues (tagOf the-type k) → Makes (cue (cueSaid l k .cue) ∷ []) w j logged m after → Makes (callBy k l n ls) w j logged m after
+  pub make-cue : OneOf cues (tagOf the-type k) → Makes (cue (cueSaid l k .cue) ∷ []) w g m after → Makes (callBy k l n ls) w g m after
   unfolding callBy
   make-cue o h = rw (not-kind cues Kinds.Push k _ o, not-kind cues Kinds.Finish k _ o, a-cue k o) h
 
-  pub make-none : OneOf silent (tagOf the-type k) → Makes [] w j logged m after → Makes (callBy k l n ls) w j logged m after
+  pub make-none : OneOf silent (tagOf the-type k) → Makes [] w g m after → Makes (callBy k l n ls) w g m after
   unfolding callBy
   make-none o h =
       rw (not-kind silent Kinds.Push k _ o, not-kind silent Kinds.Finish k _ o, not-kind silent Kinds.Point k _ o, not-kind silent Kinds.Loop k _ o, not-kind silent Kinds.Range k _ o) h

@@ -22,16 +22,13 @@ use writer::HpsWriter;
 use writer::Reply;
 ghost use mathlib.Core.Path.{_≡_};
 ghost use mathlib.Core.Bool.{true, false};
-ghost use mathlib.Core.List.{List, _++_};
-ghost use Prim.Native.Nat.{ℕ, _≤_, _<_};
+ghost use Prim.Native.Nat.{_≤_, _<_};
 ghost use lib.ListN.{length, drop};
 ghost use Rattle.script_words.specs.Texts.{linesAfter, linesOf};
 ghost use Rattle.writer.specs.Calls.{Good};
-ghost use Rattle.power_cut.specs.PowerCut.{writesOf};
-ghost use Rattle.cut_write_log.specs.WriteLog.{loggedWrites, Listed};
-ghost use Rattle.cut_logged_calls.specs.LoggedCalls.{Tally, logSize};
+ghost use Rattle.cut_write_log.specs.WriteLog.{emptyLog, logging};
 ghost use Rattle.script_run.specs.Script.{begunLength, callsIn, scriptLimit};
-ghost use Rattle.script_run.specs.Running.{allOf, Underway, Follows, refusedReply, Loads};
+ghost use Rattle.script_run.specs.Running.{logRun, allOf, Follows, refusedReply, beginRefused, begunLog, loadLog, loadedBy};
 
 // The longest script.
 pub const SCRIPT_LIMIT: usize = 1_048_576;
@@ -58,7 +55,7 @@ pub struct Loaded {
 
 // The line that starts here.
 fn load_line(v: Output, s: &[u8], at: usize, next: usize, st: Loading, logged: &mut [u8]) -> Loading
-    requires { ⌜ Underway st (now logged) × (length (now s) ≤ scriptLimit) ⌝ }
+    requires { ⌜ Good (st .writer) × (length (now s) ≤ scriptLimit) ⌝ }
     requires { ⌜ (at < length (now s)) × (drop next (now s) ≡ linesAfter (drop at (now s))) ⌝ }
     ensures { λ q. ⌜ Follows (now (s .entry)) at st (now (logged .entry)) q (now (logged .exit)) ⌝ }
 {
@@ -80,8 +77,8 @@ fn load_line(v: Output, s: &[u8], at: usize, next: usize, st: Loading, logged: &
 
 // The lines from here on.
 fn load_lines(v: Output, s: &[u8], from: usize, start: Loading, logged: &mut [u8]) -> Loading
-    requires { ⌜ Underway start (now logged) × (length (now s) ≤ scriptLimit) ⌝ }
-    ensures { λ q. ⌜ (loggedWrites (q .log) (now (logged .exit)) ≡ allOf start (now (logged .entry)) (linesOf (drop from (now (s .entry))))) × Listed (q .log) (now (logged .exit)) ⌝ }
+    requires { ⌜ Good (start .writer) × (length (now s) ≤ scriptLimit) ⌝ }
+    ensures { λ q. ⌜ logging (q .log) (now (logged .exit)) ≡ allOf start (now (logged .entry)) (linesOf (drop from (now (s .entry)))) ⌝ }
 {
     let mut st = start;
     let mut at = from;
@@ -116,7 +113,7 @@ fn is_refused(reply: Reply) -> bool
 
 // No call made: what a script that is too long, or has no room for its writes, leaves.
 fn nothing() -> Loaded
-    ensures { λ q. ⌜ (q .refused ≡ true) × ((logged : List ℕ) → Listed (q .log) logged) ⌝ }
+    ensures { λ q. ⌜ q ≡ record { refused = true; log = emptyLog } ⌝ }
 {
     Loaded {
         refused: true,
@@ -126,10 +123,9 @@ fn nothing() -> Loaded
 
 // The calls after an accepted begin, of the lines from here on.
 fn load_rest(v: Output, s: &[u8], from: usize, m: Made, lent: usize, logged: &mut [u8]) -> Loaded
-    requires { ⌜ Good (m .writer) × Tally (m .log) (m .writer) (now logged) ⌝ }
-    requires { ⌜ length (now s) ≤ scriptLimit ⌝ }
-    ensures { λ q. ⌜ loggedWrites (q .log) (now (logged .exit)) ≡ loggedWrites (m .log) (now (logged .entry)) ++ writesOf (m .writer) (callsIn lent (linesOf (drop from (now (s .entry))))) ⌝ }
-    ensures { λ q. ⌜ (q .refused ≡ false) × Listed (q .log) (now (logged .exit)) ⌝ }
+    requires { ⌜ Good (m .writer) × (length (now s) ≤ scriptLimit) ⌝ }
+    ensures { λ q. ⌜ q ≡ record { refused = false; log = logRun (m .writer) (logging (m .log) (now (logged .entry))) (callsIn lent (linesOf (drop from (now (s .entry))))) .log } ⌝ }
+    ensures { λ q. ⌜ now (logged .exit) ≡ logRun (m .writer) (logging (m .log) (now (logged .entry))) (callsIn lent (linesOf (drop from (now (s .entry))))) .bytes ⌝ }
 {
     let writer = m.writer;
     let log = m.log;
@@ -154,10 +150,11 @@ fn report_begin(v: Output, refused: bool, reply: Reply, log: WriteLog) {
     }
 }
 
-// The calls of a script that is not too long, with room for their writes.
+// The calls of a script that is not too long.
 fn load_script(v: Output, s: &[u8], slot: usize, logged: &mut [u8]) -> Loaded
-    requires { ⌜ (length (now s) ≤ scriptLimit) × (logSize ≤ length (now logged)) ⌝ }
-    ensures { λ q. ⌜ Loads slot (now (s .entry)) q (now (logged .exit)) × Listed (q .log) (now (logged .exit)) ⌝ }
+    requires { ⌜ length (now s) ≤ scriptLimit ⌝ }
+    ensures { λ q. ⌜ q ≡ record { refused = beginRefused slot (now (s .entry)); log = begunLog slot (now (s .entry)) (now (logged .entry)) .log } ⌝ }
+    ensures { λ q. ⌜ now (logged .exit) ≡ begunLog slot (now (s .entry)) (now (logged .entry)) .bytes ⌝ }
 {
     let start = start_of(s, LENT);
     let line = begin_line(line_at(s, start.at));
@@ -176,8 +173,8 @@ fn load_script(v: Output, s: &[u8], slot: usize, logged: &mut [u8]) -> Loaded
 
 // The calls of a well-formed script on a slot of this length; a refused begin ends it.
 pub fn load(v: Output, s: &[u8], slot: usize, logged: &mut [u8]) -> Loaded
-    ensures { λ q. ⌜ (length (now (s .entry)) ≤ scriptLimit → logSize ≤ length (now (logged .entry)) → Loads slot (now (s .entry)) q (now (logged .exit))) ⌝ }
-    ensures { λ q. ⌜ Listed (q .log) (now (logged .exit)) ⌝ }
+    ensures { λ q. ⌜ q ≡ loadedBy slot (now (s .entry)) (now (logged .entry)) ⌝ }
+    ensures { λ q. ⌜ now (logged .exit) ≡ loadLog slot (now (s .entry)) (now (logged .entry)) .bytes ⌝ }
 {
     if s.len() > SCRIPT_LIMIT {
         return nothing();

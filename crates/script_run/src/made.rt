@@ -23,9 +23,10 @@ ghost use Rattle.script_words.specs.Texts.{linesOf};
 ghost use Rattle.script_lines.specs.Lines.{cueSaid};
 ghost use Rattle.writer.specs.Loading as Loading;
 ghost use Rattle.writer.specs.Calls.{Good, pushOf};
-ghost use Rattle.cut_logged_calls.specs.LoggedCalls.{lentOf, Tally, MadeBy};
+ghost use Rattle.cut_write_log.specs.WriteLog.{logging};
+ghost use Rattle.cut_logged_calls.specs.LoggedCalls.{lentOf};
 ghost use Rattle.script_run.specs.Script.{pushWith, pushBy, callBy, scriptLimit};
-ghost use Rattle.script_run.specs.Running.{Makes};
+ghost use Rattle.script_run.specs.Running.{CallMade, Makes};
 
 // The most data that a line of a script of 1 MiB says.
 const DATA: usize = 524288;
@@ -46,9 +47,9 @@ fn push_sides(
     j: WriteLog,
     logged: &mut [u8],
 ) -> Made
-    requires { ⌜ Good w × Tally j w (now logged) ⌝ }
+    requires { ⌜ Good w ⌝ }
     requires { ⌜ (length (now left) ≤ scriptLimit) × (length (now right) ≤ scriptLimit) ⌝ }
-    ensures { λ q. ⌜ MadeBy (pushOf w (pushWith p (now (left .entry)) (now (right .entry))) (lentOf lent)) j (now (logged .entry)) q (now (logged .exit)) ⌝ }
+    ensures { λ q. ⌜ CallMade (pushOf w (pushWith p (now (left .entry)) (now (right .entry))) (lentOf lent)) (logging j (now (logged .entry))) q (now (logged .exit)) ⌝ }
 {
     let mut left_data = data_room();
     let n = put_data(&mut left_data, 0, data_word(left));
@@ -80,9 +81,9 @@ fn push_call(
     j: WriteLog,
     logged: &mut [u8],
 ) -> Made
-    requires { ⌜ Good w × Tally j w (now logged) ⌝ }
+    requires { ⌜ Good w ⌝ }
     requires { ⌜ length (now s) ≤ scriptLimit ⌝ }
-    ensures { λ q. ⌜ MadeBy (pushOf w (pushBy (now (line .entry)) (linesOf (drop next (now (s .entry))))) (lentOf lent)) j (now (logged .entry)) q (now (logged .exit)) ⌝ }
+    ensures { λ q. ⌜ CallMade (pushOf w (pushBy (now (line .entry)) (linesOf (drop next (now (s .entry))))) (lentOf lent)) (logging j (now (logged .entry))) q (now (logged .exit)) ⌝ }
 {
     let p = push_line(line);
     let sides = sides_from(s, next, p.channels);
@@ -100,7 +101,7 @@ fn push_call(
 // A cue line's call, which hands out nothing.
 fn cue_call(line: &[u8], kind: Kind, w: HpsWriter, j: WriteLog) -> Made
     requires { ⌜ Good w ⌝ }
-    ensures { λ q. ⌜ ((logged : List ℕ) → Tally j w logged → Makes (Loading.cue (cueSaid (now (line .entry)) kind .cue) ∷ []) w j logged q logged) ⌝ }
+    ensures { λ q. ⌜ ((logged : List ℕ) → Makes (Loading.cue (cueSaid (now (line .entry)) kind .cue) ∷ []) w (logging j logged) q logged) ⌝ }
 {
     let said = cue_line(line, kind);
     let c = said.cue;
@@ -125,9 +126,9 @@ pub(crate) fn make(
     j: WriteLog,
     logged: &mut [u8],
 ) -> Made
-    requires { ⌜ Good w × Tally j w (now logged) ⌝ }
+    requires { ⌜ Good w ⌝ }
     requires { ⌜ length (now s) ≤ scriptLimit ⌝ }
-    ensures { λ q. ⌜ Makes (callBy kind (now (line .entry)) lent (linesOf (drop next (now (s .entry))))) w j (now (logged .entry)) q (now (logged .exit)) ⌝ }
+    ensures { λ q. ⌜ Makes (callBy kind (now (line .entry)) lent (linesOf (drop next (now (s .entry))))) w (logging j (now (logged .entry))) q (now (logged .exit)) ⌝ }
 {
     match kind {
         Kind::Push => push_call(s, next, line, w, lent, j, logged),

@@ -1,6 +1,5 @@
 use borrow.Author.Needs.{needs}
-use Rattle.cut_write_log.proofs.WriteLogLaws.{none-listed}
-use Rattle.cut_logged_calls.proofs.TallyLaws.{begin-made}
+use Rattle.cut_logged_calls.proofs.TallyLaws.{call-made}
 use Rattle.cut_logged_calls.proofs.begin_with.Statement.{statement}
 use Rattle.cut_logged_calls.proofs.begin_with.Tie as tie
 
@@ -11,7 +10,7 @@ empty-log-requires : tie.Need-empty-log-requires
 empty-log-requires c κs = search needs
 
 log-reply-requires : tie.Need-log-reply-requires
-log-reply-requires c κs = rw (c .before .before .empty-log .ensures) (none-listed _)
+log-reply-requires c κs = search needs
 
 same-length : tie.Need-same-length
 same-length c = search needs
@@ -20,7 +19,7 @@ same-length-2 : tie.Need-same-length-2
 same-length-2 c = search needs
 
 returns : tie.Need-returns
-returns c = let b = c .before .before .before .before .before .before .before .before .before .begin .ensures in begin-made _ _ _ _ (c .before .before .before .before .before .empty-log .ensures) (b .0) (b .1 .0) (b .1 .1) (c .before .before .log-reply .ensures)
+returns c = call-made _ _ (c .before .before .before .before .before .before .before .before .before .begin .ensures) (rw (c .before .before .before .before .before .empty-log .ensures) at (c .before .before .log-reply .ensures))
 
 pub begin-with-spec : {M : Type 1} → statement M
 begin-with-spec =

@@ -1,5 +1,5 @@
 use borrow.Author.Needs.{needs}
-use Rattle.cut_logged_calls.proofs.TallyLaws.{finish-room, finish-made}
+use Rattle.cut_logged_calls.proofs.TallyLaws.{call-made}
 use Rattle.cut_logged_calls.proofs.finish_with.Statement.{statement}
 use Rattle.cut_logged_calls.proofs.finish_with.Tie as tie
 
@@ -16,7 +16,7 @@ same-length-2 : tie.Need-same-length-2
 same-length-2 c = search needs
 
 returns : tie.Need-returns
-returns c = let b = c .before .before .before .before .before .before .before .before .finish .ensures in let p = c .before .before .before .before .before .before .before .before .before .before .before .before .pre in finish-made _ _ (p .0) (p .1) (b .0) (b .1 .0) (b .1 .1) (c .before .before .log-reply .ensures (finish-room _ _ (p .0) (p .1) (b .0) (b .1 .0)))
+returns c = call-made _ _ (c .before .before .before .before .before .before .before .before .finish .ensures) (c .before .before .log-reply .ensures)
 
 pub finish-with-spec : {M : Type 1} → statement M
 finish-with-spec =

@@ -1,5 +1,5 @@
 use borrow.Author.Needs.{needs}
-use Rattle.cut_logged_calls.proofs.TallyLaws.{push-room, push-made}
+use Rattle.cut_logged_calls.proofs.TallyLaws.{call-made}
 use Rattle.cut_logged_calls.proofs.push_with.Statement.{statement}
 use Rattle.cut_logged_calls.proofs.push_with.Tie as tie
 
@@ -16,7 +16,7 @@ same-length-2 : tie.Need-same-length-2
 same-length-2 c = search needs
 
 returns : tie.Need-returns
-returns c = let b = c .before .before .before .before .before .before .before .before .push .ensures in let p = c .before .before .before .before .before .before .before .before .before .before .before .before .before .before .pre in push-made _ _ _ (p .0) (p .1) (b .0) (b .1 .0) (b .1 .1) (c .before .before .log-reply .ensures (push-room _ _ _ (p .0) (p .1) (b .0) (b .1 .0)))
+returns c = call-made _ _ (c .before .before .before .before .before .before .before .before .push .ensures) (c .before .before .log-reply .ensures)
 
 pub push-with-spec : {M : Type 1} → statement M
 push-with-spec =

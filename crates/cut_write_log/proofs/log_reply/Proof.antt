@@ -1,8 +1,7 @@
 use mathlib.Core.Path.{ap}
-use native.Mathlib.Omega.{arith}
 use borrow.Author.Needs.{needs}
 use Rattle.writer.specs.Calls.{placesIn}
-use Rattle.cut_write_log.proofs.WriteLogLaws.{none-logged, all-logged}
+use Rattle.cut_write_log.proofs.WriteLogLaws.{none-logged, one-write, all-logged}
 use Rattle.cut_write_log.proofs.log_reply.Statement.{statement}
 use Rattle.cut_write_log.proofs.log_reply.Tie as tie
 
@@ -25,22 +24,22 @@ log-three-requires : tie.Need-log-three-requires
 log-three-requires c κs = search needs
 
 returns : tie.Need-returns
-returns c = λ r. none-logged (ap placesIn (c .enum-told .given .1)) (c .before .before .before .before .pre)
+returns c = none-logged _ _ (ap placesIn (c .enum-told .given .1))
 
 returns-2 : tie.Need-returns-2
-returns-2 c = λ r. none-logged (ap placesIn (c .enum-told2 .given .1)) (c .before .before .before .before .pre)
+returns-2 c = none-logged _ _ (ap placesIn (c .enum-told2 .given .1))
 
 same-length : tie.Need-same-length
 same-length c = search needs
 
 returns-3 : tie.Need-returns-3
-returns-3 c = all-logged (ap placesIn (c .before .before .before .before .before .reply .given .1)) (c .before .before .log-write .ensures .0 (omega arith))
+returns-3 c = one-write _ _ (ap placesIn (c .before .before .before .before .before .reply .given .1)) (c .before .before .log-write .ensures)
 
 same-length-2 : tie.Need-same-length-2
 same-length-2 c = search needs
 
 returns-4 : tie.Need-returns-4
-returns-4 c = all-logged (ap placesIn (c .before .before .before .before .before .reply2 .given .1)) (c .before .before .log-three .ensures)
+returns-4 c = all-logged _ _ (ap placesIn (c .before .before .before .before .before .reply2 .given .1)) (c .before .before .log-three .ensures)
 
 pub log-reply-spec : {M : Type 1} → statement M
 log-reply-spec =

@@ -3,8 +3,8 @@ use lib.ListN.{length}
 use denote.Ref.{now}
 use native.Mathlib.Omega.{arith}
 use borrow.Author.Needs.{needs}
-use Rattle.layout.proofs.FieldLaws.{passed}
-use Rattle.cut_write_log.proofs.WriteLogLaws.{no-room, two-handed, logs-three}
+use Rattle.layout.proofs.FieldLaws.{passed, failed}
+use Rattle.cut_write_log.proofs.WriteLogLaws.{three-logged, first-logged}
 use Rattle.cut_write_log.proofs.log_three.Statement.{statement}
 use Rattle.cut_write_log.proofs.log_three.Tie as tie
 
@@ -30,10 +30,16 @@ same-length : tie.Need-same-length
 same-length c = search needs
 
 returns : tie.Need-returns
-returns c = λ r. logs-three r (c .before .before .before .before .before .before .before .before .before .before .log-write .ensures .0) (c .before .before .before .before .before .before .log-write2 .ensures .0) (c .before .before .log-write3 .ensures .0)
+returns c = three-logged _ _ _ _ _ (c .before .before .before .before .before .before .before .before .before .before .log-write .ensures) (c .before .before .before .before .before .before .log-write2 .ensures) (c .before .before .log-write3 .ensures)
+
+log-write-requires-4 : tie.Need-log-write-requires-4
+log-write-requires-4 c κs = search needs
+
+same-length-2 : tie.Need-same-length-2
+same-length-2 c = search needs
 
 returns-2 : tie.Need-returns-2
-returns-2 c = λ r. absurd (no-room (c .before .inside .ensures) (c .if1 .left) (two-handed r))
+returns-2 c = first-logged _ _ _ _ _ (failed (c .before .before .before .before .before .inside .ensures) (c .before .before .before .before .if1 .left)) (c .before .before .log-write4 .ensures)
 
 pub log-three-spec : {M : Type 1} → statement M
 log-three-spec =
@@ -46,4 +52,6 @@ log-three-spec =
     log-write-requires-3
     same-length
     returns
+    log-write-requires-4
+    same-length-2
     returns-2)

@@ -3,8 +3,8 @@ use native.Mathlib.Omega.{arith}
 use lib.ListN.{length}
 use denote.Ref.{now}
 use borrow.Author.Needs.{needs}
-use Rattle.layout.proofs.FieldLaws.{passed}
-use Rattle.cut_write_log.proofs.WriteLogLaws.{no-room, logs-part, listed-part, room-logged, room-lent}
+use Rattle.layout.proofs.FieldLaws.{passed, failed}
+use Rattle.cut_write_log.proofs.WriteLogLaws.{is-logged, log-full, not-lent, bytes-full}
 use Rattle.cut_write_log.proofs.log_write.Statement.{statement}
 use Rattle.cut_write_log.proofs.log_write.Tie as tie
 
@@ -52,21 +52,19 @@ same-length c = search needs
 
 returns : tie.Need-returns
 returns c =
-    let l = c .before .before .before .before .before .before .before .before .before .before .before .before .before .pre in
     let few = c .before .before .before .before .before .before .before .before .before .before .if1 .taken in
     let here = lent-room (c .before .before .before .before .before .before) in
     let room = logged-room (c .before .before .before .before .before .before) in
-    let e = c .before .before .before .put-bytes .ensures in
-    (λ at r. logs-part l _ _ _ few here room e, listed-part l _ _ _ few here room e)
+    is-logged _ _ _ _ few here room (c .before .before .before .put-bytes .ensures)
 
 returns-2 : tie.Need-returns-2
-returns-2 c = (λ at r. absurd (no-room (c .before .inside2 .ensures) (c .if3 .left) (room-logged r)), search needs)
+returns-2 c = bytes-full _ _ _ _ (failed (c .before .inside2 .ensures) (c .if3 .left))
 
 returns-3 : tie.Need-returns-3
-returns-3 c = (λ at r. absurd (no-room (c .before .inside .ensures) (c .if2 .left) (room-lent _ _ at r)), search needs)
+returns-3 c = not-lent _ _ _ _ (failed (c .before .inside .ensures) (c .if2 .left))
 
 returns-4 : tie.Need-returns-4
-returns-4 c = (λ at r. let h = c .if1 .left in let n = r .few in absurd (omega arith), search needs)
+returns-4 c = log-full _ _ _ _ (c .if1 .left)
 
 pub log-write-spec : {M : Type 1} → statement M
 log-write-spec =

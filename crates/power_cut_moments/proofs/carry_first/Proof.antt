@@ -4,10 +4,6 @@ use native.Mathlib.Omega.{arith}
 use Rattle.power_cut_moments.proofs.MomentLaws.{Carried, carried-none, carried-all, carried-part, carried-more}
 use Rattle.power_cut_moments.proofs.carry_first.Statement.{statement}
 use Rattle.power_cut_moments.proofs.carry_first.Tie as tie
-use Rattle.power_cut_moments.proofs.carry_first.Reads as reads
-use Rattle.power_cut_moments.proofs.carry_first.Lts as lts
-use Rattle.layout.proofs.least.Reads as least-reads
-use Rattle.power_cut_moments.proofs.reach.Reads as reach-reads
 
 abbrev Inv-loop : tie.InvT-loop
 Inv-loop slot₀ count bytes moment places i₀ at₀ left₀ slot i at left = Carried slot₀ places count bytes moment slot i at left
@@ -49,7 +45,7 @@ same-length : tie.Need-same-length Inv-loop μ-loop
 same-length c = search needs
 
 returns : tie.Need-returns Inv-loop μ-loop
-returns c = carried-part _ (c .before .before .before .before .before .before .before .before .before .loop .inv) (search needs) (c .before .before .before .before .before .before .least .ensures) (c .before .before .before .before .before .before .before .before .before .loop .at + c .before .before .before .before .before .before .least .result - c .before .before .before .before .before .before .before .before .before .loop .at) (omega arith) (search needs) (c .before .before .reach .ensures)
+returns c = carried-part (c .before .before .before .before .before .before .before .before .before .loop .inv) _ (search needs) (c .before .before .before .before .before .before .least .ensures) (c .before .before .before .before .before .before .before .before .before .loop .at + c .before .before .before .before .before .before .least .result - c .before .before .before .before .before .before .before .before .before .loop .at) (omega arith) (search needs) (c .before .before .reach .ensures)
 
 sub-reach-2 : tie.Need-sub-reach-2 Inv-loop μ-loop
 sub-reach-2 c = search needs
@@ -70,7 +66,7 @@ loop-less : tie.Need-loop-less Inv-loop μ-loop
 loop-less c = search needs
 
 loop-again : tie.Need-loop-again Inv-loop μ-loop
-loop-again c = carried-more _ (c .before .before .before .before .before .before .before .before .before .loop .inv) (search needs) (c .before .before .before .before .before .before .least .ensures) (c .before .before .before .before .before .before .before .before .before .loop .at + c .before .before .before .before .before .before .least .result - c .before .before .before .before .before .before .before .before .before .loop .at) (omega arith) (search needs) (c .before .before .reach2 .ensures)
+loop-again c = carried-more (c .before .before .before .before .before .before .before .before .before .loop .inv) _ (search needs) (c .before .before .before .before .before .before .least .ensures) (c .before .before .before .before .before .before .before .before .before .loop .at + c .before .before .before .before .before .before .least .result - c .before .before .before .before .before .before .before .before .before .loop .at) (omega arith) (search needs) (c .before .before .reach2 .ensures)
 
 same-length-2 : tie.Need-same-length-2 Inv-loop μ-loop
 same-length-2 c = search needs

@@ -1,13 +1,13 @@
-use Prim.Native.Nat.{ℕ, _+_, min}
+use Prim.Native.Nat.{ℕ, min}
 use mathlib.Core.Path.{_≡_, ap, sym, _∙_}
 use mathlib.Core.List.{List}
-use lib.ListN.{length, take}
+use lib.ListN.{length}
 use denote.Ref.{now}
+use borrow.Author.Needs.{needs}
 use Rattle.writer.specs.WritesAndCuttingRule.{writesIn, mostWrites}
 use Rattle.writer.specs.declared.Place.{Place}
-use Rattle.power_cut_moments.specs.Moments.{slotAt}
+use Rattle.power_cut_moments.specs.Moments.{nextByte}
 use Rattle.power_cut_moments.proofs.ByteLaws.{same-take}
-use borrow.Author.Needs.{needs}
 use Rattle.power_cut_moments.proofs.next_moment.Statement.{statement}
 use Rattle.power_cut_moments.proofs.next_moment.Tie as tie
 
@@ -21,12 +21,12 @@ same-length : tie.Need-same-length
 same-length c = search needs
 
 returns : tie.Need-returns
-returns c = λ s e.
+returns c =
     let b = c .before .before in
     let a = b .before .before .before .before .before .args in
     let long : length (a .places) ≡ mostWrites = search needs in
-    let at : (m : ℕ) → slotAt s (writesIn (take (b .before .before .least .result) (a .places)) (now (a .bytes))) m ≡ slotAt s (writesIn (take (a .count) (a .places)) (now (a .bytes))) m = λ m. ap (λ (ps : List Place). slotAt s (writesIn ps (now (a .bytes))) m) (same-take (a .count) (a .places) (b .before .before .least .ensures ∙ ap (min (a .count)) (sym long))) in
-    b .next-first .ensures s (e ∙ sym (at (a .moment))) ∙ at (a .moment + 1)
+    b .next-first .ensures
+    ∙ ap (λ (ps : List Place). nextByte (now (a .slot)) (writesIn ps (now (a .bytes))) (a .moment)) (same-take (a .count) (a .places) (b .before .before .least .ensures ∙ ap (min (a .count)) (sym long)))
 
 pub next-moment-spec : {M : Type 1} → statement M
 next-moment-spec = tie.close (tie.spec least-requires next-first-requires same-length returns)

@@ -2,13 +2,10 @@ use Prim.Native.Nat.{_+_, _≤_}
 use native.Mathlib.Omega.{arith}
 use lib.ListN.{length}
 use Rattle.layout.proofs.FieldLaws.{passed, failed}
-use Rattle.power_cut_moments.proofs.MomentLaws.{more-in, more-done, more-out}
+use Rattle.power_cut_moments.proofs.MomentLaws.{next-in, next-done, next-out}
 use borrow.Author.Needs.{needs}
 use Rattle.power_cut_moments.proofs.reach_next.Statement.{statement}
 use Rattle.power_cut_moments.proofs.reach_next.Tie as tie
-use Rattle.power_cut_moments.proofs.reach_next.Reads as reads
-use Rattle.power_cut_moments.proofs.reach_next.Lts as lts
-use Rattle.layout.proofs.fields.inside.Reads as inside-reads
 
 inside-requires : tie.Need-inside-requires
 inside-requires c κs = search needs
@@ -26,13 +23,13 @@ same-length : tie.Need-same-length
 same-length c = search needs
 
 returns : tie.Need-returns
-returns c = λ s e. more-in _ _ _ s e (passed (c .before .before .before .inside .ensures) (c .before .before .if1 .taken)) (search needs)
+returns c = next-in _ _ _ _ (passed (c .before .before .before .inside .ensures) (c .before .before .if1 .taken)) (search needs)
 
 returns-2 : tie.Need-returns-2
-returns-2 c = λ s e. more-done _ _ _ s e (search needs)
+returns-2 c = next-done _ _ _ _ (search needs)
 
 returns-3 : tie.Need-returns-3
-returns-3 c = λ s e. more-out _ _ _ s e (failed (c .before .inside .ensures) (c .if1 .left))
+returns-3 c = next-out _ _ _ _ (failed (c .before .inside .ensures) (c .if1 .left))
 
 pub reach-next-spec : {M : Type 1} → statement M
 reach-next-spec =

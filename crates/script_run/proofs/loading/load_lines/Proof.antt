@@ -19,7 +19,7 @@ next-line-requires : tie.Need-next-line-requires Inv-loop μ-loop
 next-line-requires c κs = search needs
 
 load-line-requires : tie.Need-load-line-requires Inv-loop μ-loop
-load-line-requires c κs = ((c .before .before .before .loop .inv .underway, c .before .before .before .before .before .before .pre .1), (c .before .before .loop-test .taken, c .before .next-line .ensures .0))
+load-line-requires c κs = ((c .before .before .before .loop .inv .good, c .before .before .before .before .before .before .pre .1), (c .before .before .loop-test .taken, c .before .next-line .ensures .0))
 
 loop-less : tie.Need-loop-less Inv-loop μ-loop
 loop-less c = omega (arith, c .before .before .before .before .next-line .ensures .1 .1 (c .before .before .before .before .before .loop-test .taken))

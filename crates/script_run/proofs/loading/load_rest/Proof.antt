@@ -1,5 +1,4 @@
 use borrow.Author.Needs.{needs}
-use mathlib.Core.Path.{refl}
 use Rattle.script_run.proofs.LoadLaws.{rest-is}
 use Rattle.script_run.proofs.loading.load_rest.Statement.{statement}
 use Rattle.script_run.proofs.loading.load_rest.Tie as tie
@@ -11,7 +10,7 @@ same-length : tie.Need-same-length
 same-length c = search needs
 
 returns : tie.Need-returns
-returns c = (rest-is (c .before .before .before .before .before .before .before .before .before .args .m) _ _ _ _ (c .before .before .before .load-lines .ensures .0), (refl, c .before .before .before .load-lines .ensures .1))
+returns c = rest-is (c .before .before .before .before .before .before .before .before .before .args .m) _ _ _ _ (c .before .before .before .load-lines .ensures)
 
 pub load-rest-spec : {M : Type 1} → statement M
 load-rest-spec = tie.close (tie.spec load-lines-requires same-length returns)

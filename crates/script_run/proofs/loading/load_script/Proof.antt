@@ -1,5 +1,5 @@
 use borrow.Author.Needs.{needs}
-use Rattle.script_run.proofs.BeginLaws.{loads-nothing, begun-tally, loads-all}
+use Rattle.script_run.proofs.BeginLaws.{loads-nothing, loads-all}
 use Rattle.script_run.proofs.loading.load_script.Statement.{statement}
 use Rattle.script_run.proofs.loading.load_script.Tie as tie
 
@@ -31,19 +31,19 @@ same-length : tie.Need-same-length
 same-length c = search needs
 
 returns : tie.Need-returns
-returns c = (loads-nothing (c .before .before .before .before .before .before .before .before .before .before .before .before .before .before .before .args .slot) (c .before .before .before .before .before .before .before .before .before .before .before .before .start-of .ensures) (c .before .before .before .before .before .before .before .before .before .before .before .line-at .ensures) (c .before .before .before .before .before .before .before .before .before .before .begin-line .ensures) (c .before .before .before .before .before .before .before .before .before .begun-length .ensures) (c .before .before .before .before .before .before .before .begin-logged .ensures) (c .before .before .before .is-refused .ensures) (c .before .if1 .taken) (c .nothing .ensures .0), c .nothing .ensures .1 _)
+returns c = loads-nothing (c .before .before .before .before .before .before .before .before .before .before .before .before .before .before .before .args .slot) _ (c .before .before .before .before .before .before .before .before .before .before .before .before .start-of .ensures) (c .before .before .before .before .before .before .before .before .before .before .before .line-at .ensures) (c .before .before .before .before .before .before .before .before .before .before .begin-line .ensures) (c .before .before .before .before .before .before .before .before .before .begun-length .ensures) (c .before .before .before .before .before .before .before .begin-logged .ensures) (c .before .before .before .is-refused .ensures) (c .before .if1 .taken) (c .nothing .ensures)
 
 next-line-requires : tie.Need-next-line-requires
 next-line-requires c κs = search needs
 
 load-rest-requires : tie.Need-load-rest-requires
-load-rest-requires c κs = ((c .before .before .before .before .before .before .before .before .begin-logged .ensures .good, begun-tally (c .before .before .before .before .before .before .before .before .before .before .before .before .before .before .before .before .args .slot) (c .before .before .before .before .before .before .before .before .before .before .before .before .before .start-of .ensures) (c .before .before .before .before .before .before .before .before .before .before .before .before .line-at .ensures) (c .before .before .before .before .before .before .before .before .before .before .before .begin-line .ensures) (c .before .before .before .before .before .before .before .before .before .before .begun-length .ensures) (c .before .before .before .before .before .before .before .before .begin-logged .ensures) (c .before .before .before .before .is-refused .ensures) (c .before .before .if1 .left) (c .before .before .before .before .before .before .before .before .before .before .before .before .before .before .before .before .pre .1)), c .before .before .before .before .before .before .before .before .before .before .before .before .before .before .before .before .pre .0)
+load-rest-requires c κs = (c .before .before .before .before .before .before .before .before .begin-logged .ensures .1 .1, c .before .before .before .before .before .before .before .before .before .before .before .before .before .before .before .before .pre)
 
 same-length-2 : tie.Need-same-length-2
 same-length-2 c = search needs
 
 returns-2 : tie.Need-returns-2
-returns-2 c = (loads-all (c .before .before .before .before .before .before .before .before .before .before .before .before .before .before .before .before .before .before .before .args .slot) (c .before .before .before .before .before .before .before .before .before .before .before .before .before .before .before .before .start-of .ensures) (c .before .before .before .before .before .before .before .before .before .before .before .before .before .before .before .line-at .ensures) (c .before .before .before .before .before .before .before .before .before .before .before .before .before .before .begin-line .ensures) (c .before .before .before .before .before .before .before .before .before .before .before .before .before .begun-length .ensures) (c .before .before .before .before .before .before .before .before .before .before .before .begin-logged .ensures) (c .before .before .before .before .before .before .before .is-refused .ensures) (c .before .before .before .before .before .if1 .left) (c .before .before .before .before .before .before .before .before .before .before .before .before .before .before .before .before .before .before .before .pre .1) (c .before .before .before .before .next-line .result) (c .before .before .before .before .next-line .ensures .0) (c .before .before .load-rest .ensures .1 .0) (c .before .before .load-rest .ensures .0), c .before .before .load-rest .ensures .1 .1)
+returns-2 c = loads-all (c .before .before .before .before .before .before .before .before .before .before .before .before .before .before .before .before .before .before .before .args .slot) _ (c .before .before .before .before .before .before .before .before .before .before .before .before .before .before .before .before .start-of .ensures) (c .before .before .before .before .before .before .before .before .before .before .before .before .before .before .before .line-at .ensures) (c .before .before .before .before .before .before .before .before .before .before .before .before .before .before .begin-line .ensures) (c .before .before .before .before .before .before .before .before .before .before .before .before .before .begun-length .ensures) (c .before .before .before .before .before .before .before .before .before .before .before .begin-logged .ensures) (c .before .before .before .before .before .before .before .is-refused .ensures) (c .before .before .before .before .next-line .result) (c .before .before .before .before .before .if1 .left) (c .before .before .before .before .next-line .ensures .0) (c .before .before .load-rest .ensures)
 
 pub load-script-spec : {M : Type 1} → statement M
 load-script-spec =

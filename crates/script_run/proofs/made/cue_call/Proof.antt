@@ -10,7 +10,7 @@ cue-requires : tie.Need-cue-requires
 cue-requires c κs = search needs
 
 returns : tie.Need-returns
-returns c = λ logged t. rw (← c .before .before .before .cue-line .ensures) (cue-makes _ (c .before .cue .ensures .0) (c .before .cue .ensures .1) t)
+returns c = λ logged. rw (← c .before .before .before .cue-line .ensures) (cue-makes _ (c .before .cue .ensures .0) (c .before .cue .ensures .1))
 
 pub cue-call-spec : {M : Type 1} → statement M
 cue-call-spec = tie.close (tie.spec cue-line-requires cue-requires returns)

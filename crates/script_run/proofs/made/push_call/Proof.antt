@@ -24,7 +24,7 @@ same-length : tie.Need-same-length
 same-length c = search needs
 
 returns : tie.Need-returns
-returns c = push-made _ _ _ _ (c .before .before .before .before .before .before .before .push-line .ensures) (c .before .before .before .before .before .line-at .ensures ∙ c .before .before .before .before .before .before .sides-from .ensures .0) (c .before .before .before .before .line-at2 .ensures ∙ c .before .before .before .before .before .before .sides-from .ensures .1) (c .before .before .push-sides .ensures)
+returns c = push-made _ _ _ _ _ (c .before .before .before .before .before .before .before .push-line .ensures) (c .before .before .before .before .before .line-at .ensures ∙ c .before .before .before .before .before .before .sides-from .ensures .0) (c .before .before .before .before .line-at2 .ensures ∙ c .before .before .before .before .before .before .sides-from .ensures .1) (c .before .before .push-sides .ensures)
 
 pub push-call-spec : {M : Type 1} → statement M
 push-call-spec =

@@ -52,7 +52,7 @@ same-length : tie.Need-same-length
 same-length c = search needs
 
 returns : tie.Need-returns
-returns c = sides-made _ _ _ _ _ (c .before .before .before .before .before .before .before .channel-line .ensures) (c .before .before .before .before .before .before .channel-line2 .ensures) (data-is _ _ (c .before .before .before .before .before .before .before .before .before .before .before .before .before .before .before .before .before .before .before .before .before .pre .1 .0) (c .before .before .before .before .before .before .before .before .before .before .before .before .before .before .before .data-word .ensures) (c .before .before .before .before .before .before .before .before .before .before .before .before .before .before .before .before .before .data-room .ensures) (c .before .before .before .before .before .before .before .before .before .before .before .before .before .before .put-data .ensures .0) (c .before .before .before .before .before .before .before .before .before .before .before .before .before .before .put-data .ensures .1)) (data-is _ _ (c .before .before .before .before .before .before .before .before .before .before .before .before .before .before .before .before .before .before .before .before .before .pre .1 .1) (c .before .before .before .before .before .before .before .before .before .before .data-word2 .ensures) (c .before .before .before .before .before .before .before .before .before .before .before .before .data-room2 .ensures) (c .before .before .before .before .before .before .before .before .before .put-data2 .ensures .0) (c .before .before .before .before .before .before .before .before .before .put-data2 .ensures .1)) (c .before .before .push-logged .ensures)
+returns c = sides-made _ _ _ _ _ _ (c .before .before .before .before .before .before .before .channel-line .ensures) (c .before .before .before .before .before .before .channel-line2 .ensures) (data-is _ _ (c .before .before .before .before .before .before .before .before .before .before .before .before .before .before .before .before .before .before .before .before .before .pre .1 .0) (c .before .before .before .before .before .before .before .before .before .before .before .before .before .before .before .data-word .ensures) (c .before .before .before .before .before .before .before .before .before .before .before .before .before .before .before .before .before .data-room .ensures) (c .before .before .before .before .before .before .before .before .before .before .before .before .before .before .put-data .ensures .0) (c .before .before .before .before .before .before .before .before .before .before .before .before .before .before .put-data .ensures .1)) (data-is _ _ (c .before .before .before .before .before .before .before .before .before .before .before .before .before .before .before .before .before .before .before .before .before .pre .1 .1) (c .before .before .before .before .before .before .before .before .before .before .data-word2 .ensures) (c .before .before .before .before .before .before .before .before .before .before .before .before .data-room2 .ensures) (c .before .before .before .before .before .before .before .before .before .put-data2 .ensures .0) (c .before .before .before .before .before .before .before .before .before .put-data2 .ensures .1)) (c .before .before .push-logged .ensures)
 
 pub push-sides-spec : {M : Type 1} → statement M
 push-sides-spec =

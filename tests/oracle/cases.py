@@ -1,4 +1,4 @@
-"""Cases of the programs `replay` and `replay_loads`: a slot or the arguments of an estimate, and a loading, with the answers that they must have.
+"""Cases of the program `replay`: a slot, a loading or the arguments of an estimate, with the answers that they must have.
 
 A case has a kind (1 slot, 2 loading, 3 estimate), a length and so many bytes; numbers are u32, big-endian, two of them for a u64.
   slot      the slot's length; how many bytes follow, the others being 0, and these; the listing's length and the listing; then, if the slot opens, its two
@@ -24,17 +24,11 @@ from loadings import NAMES, made_of
 from orders import LISTED, bytes_for, up
 
 SLOT, LOADING, ESTIMATE = 1, 2, 3
-PROGRAMS = {SLOT: "replay", LOADING: "replay_loads", ESTIMATE: "replay"}
-MOST = 590000  # of what a program takes
+MOST = 690000  # of what the program takes
 
 
 def case(kind, body):
     return struct.pack(">II", kind, len(body)) + body
-
-
-def program_of(made):
-    """The name of the program that takes this case."""
-    return PROGRAMS[made[3]]
 
 
 # ---- Slots
@@ -195,11 +189,11 @@ def estimates():
         yield estimate_case(2, length, 1, 0, other)
 
 
-# ---- The programs
+# ---- The program
 
 def others(folder, cases):
-    """The numbers of the cases, of one program in this folder, in which our calls say something else, and the places there."""
-    program = os.path.join(folder, program_of(cases[0]))
+    """The numbers of the cases in which our calls, by the program in this folder, say something else, and the places there."""
+    program = os.path.join(folder, "replay")
     done = subprocess.run([program], input=b"".join(cases), capture_output=True)
     *lines, last = done.stdout.decode().split("\n")[:-1] or [""]
     found = {int(words[2]): int(words[4]) for words in map(str.split, lines)}

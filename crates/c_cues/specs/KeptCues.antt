@@ -11,7 +11,8 @@ use Rattle.layout.specs.Records.{be32}
 use Rattle.reader.specs.declared.HpsReader.{HpsReader}
 use Rattle.reader.specs.declared.CueIterator.{CueIterator}
 use Rattle.reader.specs.CuesReadBack.{CueAnswer, cursor, looped, firstCursor, cueStep}
-use Rattle.c_opened.specs.KeptReader.{wordAt, longAt, be64, putLong, readerIn}
+use Rattle.layout_read.specs.NumberOrZero.{wordAt, longAt}
+use Rattle.c_opened.specs.KeptReader.{be64, putLong, readerIn}
 use Rattle.c_cues.specs.CueBytes.{cueKept}
 use Rattle.c_cues.specs.declared.CuesFilled.{CuesFilled}
 

@@ -4,9 +4,9 @@ use mathlib.Core.Path.{_≡_, refl, sym, ap, _∙_}
 use mathlib.Core.Bool.{Bool, true, false, not}
 use mathlib.Core.List.{List, [], _∷_, _++_, append-assoc, append-nil}
 use native.Mathlib.Omega.{arith}
-use lib.ListN.{length, replicate, length-append}
+use lib.ListN.{length, length-append}
 use lib.Dec.{eqb}
-use lib.IntN.{ℤ, pos}
+use lib.IntN.{ℤ}
 use mir.Syntax.{w16}
 use mir.Val.{SFits}
 use denote.Array.{each}
@@ -29,10 +29,11 @@ use Rattle.writer.specs.declared.Looping.{Looping}
 use Rattle.writer.specs.declared.LoopAt.{LoopAt}
 use Rattle.c_record.specs.Fields.{fieldsOf, writerOf}
 use Rattle.c_record.specs.declared.Fields.{Fields}
-use Rattle.c_opened.specs.KeptReader.{be64, wordAt, longAt}
+use Rattle.layout_read.specs.NumberOrZero.{halfAt, signedAt, wordAt, longAt}
+use Rattle.c_opened.specs.KeptReader.{be64}
 use Rattle.c_opened.proofs.LongLaws.{be64-length, word-back, long-back}
 use Rattle.c_opened.proofs.ReadBackLaws.{Agree}
-use Rattle.c_record.specs.KeptSides.{halfAt, signedAt, signedFrom, sideIn, cuesKept, tableIn, cuesAt, leftAt, rightAt, loaderSize}
+use Rattle.c_record.specs.KeptSides.{signedFrom, sideIn, cuesKept, tableIn, cuesAt, leftAt, rightAt, loaderSize}
 use Rattle.c_record.proofs.SameLaws.{word-same, long-same, side-same, table-same}
 use Rattle.c_record_put.specs.KeptNumbers.{modeNumber, loopOffsetNumber, flagNumber, placesBytes, sumsBytes, marksBytes, numberBytes}
 use Rattle.c_record_put.proofs.NumberLaws.{places-length, sums-length, numbers-length}

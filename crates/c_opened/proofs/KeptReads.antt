@@ -1,7 +1,6 @@
 -- The opening record read from lent bytes: words, offsets one after the other, and the record that the reads come to.
 use Prim.Native.Nat.{ℕ, zero, suc, _+_, _*_, _%_, _≤_, _<_}
 use mathlib.Core.Path.{_≡_, refl, sym, ap, _∙_}
-use mathlib.Core.Bool.{Bool, true, false}
 use mathlib.Core.Logic.{_⊎_, inl, inr, ⊎-elim}
 use mathlib.Core.List.{List, [], _∷_}
 use native.Mathlib.Omega.{arith}
@@ -9,35 +8,22 @@ use native.Mathlib.Nat.{le-of-suc-le-suc}
 use lib.ListN.{length, getD, set, replicate, length-set}
 use lib.Seq.{getD-set-same, getD-set-other, ext-getD}
 use lib.Dec.{ltb, leb, eqb}
-use borrow.Author.Tests.{eq-eqb, ne-eqb, eqb-true, eqb-false, lt-ltb, le-ltb, le-leb, lt-leb, leb-true, leb-false, ltb-true, ltb-false}
+use borrow.Author.Tests.{eq-eqb, ne-eqb, eqb-true, eqb-false, lt-ltb, le-ltb, le-leb, leb-true, ltb-true, ltb-false}
 use Rattle.layout.specs.Choice.{pick, _and_}
-use Rattle.layout.specs.Records.{u32At, field, Read, on, readChannel, fileHeaderSize}
-use Rattle.layout.specs.Answers.{u32Says}
-use Rattle.layout.specs.declared.fields.U32Read.{U32Read}
+use Rattle.layout.specs.Records.{u32At, Read, on, readChannel, fileHeaderSize}
 use Rattle.layout.specs.declared.Channel.{Channel}
 use Rattle.layout.proofs.Cases.{by-cases}
-use Rattle.layout.proofs.FieldLaws.{u32, got, short}
 use Rattle.reader.specs.OpeningAndReading.{Readable}
 use Rattle.reader.specs.ReaderAnswers.{noReader}
 use Rattle.reader.specs.declared.HpsReader.{HpsReader}
 use Rattle.reader.specs.declared.LoopStart.{LoopStart}
-use Rattle.c_opened.specs.KeptReader.{wordAt, loopNumber, loopOf, lesser, offsetsIn, partIn, openedSize, offsetsAt}
+use Rattle.layout_read.specs.NumberOrZero.{wordAt}
+use Rattle.layout_read.proofs.NumberLaws.{word-in}
+use Rattle.c_opened.specs.KeptReader.{loopNumber, loopOf, lesser, offsetsIn, partIn, openedSize, offsetsAt}
 use Rattle.layout.specs.Refusals.{blockLimit}
 use Rattle.layout.proofs.ListLaws.{zeros-at}
 
--- ---- Words
-
-module _ (s : List ℕ) (at : ℕ) where
-  pub word-in : at + 4 ≤ length s → wordAt s at ≡ u32At s at
-  unfolding wordAt
-  word-in h = rw (le-leb (at + 4) (length s) h)
-
-  pub word-read : {q : U32Read} {n : ℕ} → u32Says q ≡ field s (at + 4) (u32At s at) → q ≡ U32Read.Value n → n ≡ wordAt s at
-  word-read e f = let g = got u32 e f in g .is ∙ sym (word-in (g .inside))
-
-  pub word-short : {q : U32Read} {n : ℕ} → u32Says q ≡ field s (at + 4) (u32At s at) → q ≡ U32Read.Refused n → 0 ≡ wordAt s at
-  unfolding wordAt
-  word-short e f = rw (lt-leb (at + 4) (length s) (short u32 e f .outside))
+-- ---- Loop start and lesser number
 
 pub no-loop : (n : ℕ) → n ≡ 4294967295 → LoopStart.None ≡ loopOf n
 no-loop n h = rw (eq-eqb n 4294967295 h)

@@ -9,8 +9,9 @@ use Rattle.layout.specs.Records.{be32}
 use Rattle.layout.proofs.AtLaws.{At, at-left, at-right, at-move, at-inside, u32-back}
 use Rattle.layout.proofs.Lengths.{be32-length}
 use Rattle.layout.proofs.PutLaws.{Put, put-then, putAt-length}
-use Rattle.c_opened.specs.KeptReader.{wordAt, longAt, be64, putLong}
-use Rattle.c_opened.proofs.KeptReads.{word-in}
+use Rattle.layout_read.specs.NumberOrZero.{wordAt, longAt}
+use Rattle.layout_read.proofs.NumberLaws.{word-in, long-in}
+use Rattle.c_opened.specs.KeptReader.{be64, putLong}
 
 pub be64-length : (x : ℕ) → length (be64 x) ≡ 8
 unfolding be64 be32
@@ -37,9 +38,10 @@ pub word-back : {s : List ℕ} (off : ℕ) {x : ℕ} → x < 4294967296 → At s
 word-back {s} off {x} h a = word-in s off (omega (arith, at-inside a, be32-length x)) ∙ u32-back h a
 
 pub long-back : {s : List ℕ} (off : ℕ) {x : ℕ} → x < 18446744073709551616 → At s off (be64 x) → longAt s off ≡ x
-unfolding longAt be64
+unfolding be64
 long-back {s} off {x} h a =
     let p : wordAt s off ≡ x / 4294967296 = word-back off (omega arith) (at-left (be32 (x / 4294967296)) (be32 (x % 4294967296)) a) in
     let q : wordAt s (off + 4) ≡ x % 4294967296 =
     word-back (off + 4) (omega arith) (at-move (off + 4) (ap (λ (m : ℕ). off + m) (be32-length (x / 4294967296))) (at-right (be32 (x / 4294967296)) (be32 (x % 4294967296)) a)) in
-    rw (p, q) (omega arith)
+    let g : off + 8 ≤ length s = omega (arith, at-inside a, be64-length x) in
+    rw (long-in s off g, p, q) (omega arith)

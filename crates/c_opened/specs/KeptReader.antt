@@ -16,14 +16,6 @@ use Rattle.reader.specs.declared.LoopStart.the-variants.{None, Block}
 use Rattle.reader.specs.declared.HpsReader.{HpsReader}
 use Rattle.reader.specs.ReaderAnswers.{noReader}
 
--- A u32 at an offset, 0 where it is not wholly there.
-unfoldable pub wordAt : List ℕ → ℕ → ℕ
-wordAt s at = pick (leb (at + 4) (length s)) (u32At s at) 0
-
--- A u64 at an offset, high half first.
-unfoldable pub longAt : List ℕ → ℕ → ℕ
-longAt s at = wordAt s at * 4294967296 + wordAt s (at + 4)
-
 -- The bytes of a u64.
 unfoldable pub be64 : ℕ → List ℕ
 be64 x = be32 (x / 4294967296) ++ be32 (x % 4294967296)

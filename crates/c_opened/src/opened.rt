@@ -1,10 +1,10 @@
 // The opening record in bytes: the file header, with zeros for a channel that is not in use; the count of blocks; the loop start, 4,294,967,295 for none; the offsets of 512 blocks.
-use crate::fields::word;
 use layout::answers::ReadAnswer;
 use layout::limits::BLOCK_LIMIT;
 use layout::limits::FILE_HEADER_SIZE;
 use layout::no_channel;
 use layout_read::channels::read_channel;
+use layout_read::number_or_zero::word;
 use reader::HpsReader;
 use reader::LoopStart;
 ghost use mathlib.Core.Path.{_≡_};

@@ -4,9 +4,9 @@ use mathlib.Core.Path.{_≡_, refl}
 use mathlib.Core.List.{List}
 use native.Mathlib.Omega.{arith}
 use lib.ListN.{length}
-use Rattle.c_opened.specs.KeptReader.{wordAt, longAt}
+use Rattle.layout_read.specs.NumberOrZero.{halfAt, signedAt, wordAt, longAt}
 use Rattle.c_opened.proofs.ReadBackLaws.{Agree, u16-same, u32-same}
-use Rattle.c_record.specs.KeptSides.{halfAt, signedAt, signedFrom, sideIn, cueIn, cuesKept, tableIn, sideSize}
+use Rattle.c_record.specs.KeptSides.{signedFrom, sideIn, cueIn, cuesKept, tableIn, sideSize}
 
 module _ (s t : List ℕ) (from to : ℕ) (a : Agree s t from to) (long : length s ≡ length t) where
   pub word-same : (at : ℕ) → from ≤ at → at + 4 ≤ to → wordAt s at ≡ wordAt t at
@@ -15,7 +15,7 @@ module _ (s t : List ℕ) (from to : ℕ) (a : Agree s t from to) (long : length
 
   pub long-same : (at : ℕ) → from ≤ at → at + 8 ≤ to → longAt s at ≡ longAt t at
   unfolding longAt
-  long-same at l h = rw (word-same at l (omega arith), word-same (at + 4) (omega arith) (omega arith))
+  long-same at l h = rw (long, u32-same s t from to a at l (omega arith), u32-same s t from to a (at + 4) (omega arith) (omega arith))
 
   half-same : (at : ℕ) → from ≤ at → at + 2 ≤ to → halfAt s at ≡ halfAt t at
   unfolding halfAt

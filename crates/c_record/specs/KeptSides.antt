@@ -3,16 +3,15 @@ use Prim.Native.Nat.{ℕ, zero, suc, _+_, _-_, _*_}
 use mathlib.Core.Bool.{Bool}
 use mathlib.Core.List.{List, [], _∷_, _++_}
 use lib.ListN.{length, replicate}
-use lib.Dec.{ltb, leb, eqb}
-use lib.IntN.{ℤ, pos}
+use lib.Dec.{ltb, eqb}
+use lib.IntN.{ℤ}
 use Rattle.layout.specs.Choice.{pick, _or_, _and_}
-use Rattle.layout.specs.Records.{u16At, i16At}
 use Rattle.layout.specs.Refusals.{cueLimit}
 use Rattle.writer.specs.Calls.{noCue}
 use Rattle.writer.specs.declared.ChannelBlock.{ChannelBlock}
 use Rattle.writer.specs.declared.Cue.{Cue}
 use Rattle.writer.specs.declared.CueKind.{CueKind}
-use Rattle.c_opened.specs.KeptReader.{wordAt, longAt}
+use Rattle.layout_read.specs.NumberOrZero.{halfAt, signedAt, wordAt, longAt}
 
 -- ---- Places in the writer's record
 
@@ -39,12 +38,6 @@ abbrev pub loaderSize : ℕ
 loaderSize = cuesAt + cueSize * cueLimit
 
 -- ---- Numbers
-
-unfoldable pub halfAt : List ℕ → ℕ → ℕ
-halfAt s at = pick (leb (at + 2) (length s)) (u16At s at) 0
-
-unfoldable pub signedAt : List ℕ → ℕ → ℤ
-signedAt s at = pick (leb (at + 2) (length s)) (i16At s at) (pos 0)
 
 -- n signed numbers from a place on.
 unfoldable pub signedFrom : List ℕ → (at n : ℕ) → List ℤ

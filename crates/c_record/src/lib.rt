@@ -5,14 +5,12 @@ pub mod places; // places.rt: where the fields of the writer's record lie
 
 use crate::places::CUE_SIZE;
 use crate::places::SIDE_SIZE;
-use c_opened::fields::long;
-use c_opened::fields::word;
 use layout::FrameContext;
-use layout::fields::I16Read;
-use layout::fields::U16Read;
-use layout::fields::read_i16;
-use layout::fields::read_u16;
 use layout::limits::CUE_LIMIT;
+use layout_read::number_or_zero::half;
+use layout_read::number_or_zero::long;
+use layout_read::number_or_zero::signed;
+use layout_read::number_or_zero::word;
 use writer::ChannelBlock;
 use writer::Cue;
 use writer::CueKind;
@@ -21,7 +19,7 @@ use writer::Looping;
 ghost use mathlib.Core.Path.{_≡_};
 ghost use Prim.Native.Nat.{_<_, _≤_};
 ghost use Rattle.layout.specs.Refusals.{cueLimit};
-ghost use Rattle.c_record.specs.KeptSides.{halfAt, signedAt, signedFrom, sideIn, sidesShort, kindOf, cueIn, tableIn};
+ghost use Rattle.c_record.specs.KeptSides.{signedFrom, sideIn, sidesShort, kindOf, cueIn, tableIn};
 
 // The fields of the writer's record but its table, as they lie in its bytes.
 pub struct Fields {
@@ -40,24 +38,6 @@ pub struct Fields {
     pub right: ChannelBlock,
     pub last: bool,
     pub finished: bool,
-}
-
-fn half(s: &[u8], at: usize) -> u16
-    ensures { λ n. ⌜ n ≡ halfAt (now (s .entry)) at ⌝ }
-{
-    let U16Read::Value(n) = read_u16(s, at) else {
-        return 0;
-    };
-    n
-}
-
-fn signed(s: &[u8], at: usize) -> i16
-    ensures { λ n. ⌜ n ≡ signedAt (now (s .entry)) at ⌝ }
-{
-    let I16Read::Value(n) = read_i16(s, at) else {
-        return 0;
-    };
-    n
 }
 
 fn coefficients_in(s: &[u8], at: usize) -> [i16; 16]

@@ -1,3 +1,4 @@
 pub mod ReadLaws
 pub mod ChannelLaws
 pub mod MagicLaws
+pub mod NumberLaws

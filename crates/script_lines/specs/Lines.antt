@@ -6,7 +6,7 @@ use lib.ListN.{length}
 use lib.Dec.{eqb}
 use lib.IntN.{ℤ}
 use Rattle.layout.specs.Choice.{pick, _and_}
-use Rattle.replay_input.specs.Stored.{numberAt}
+use Rattle.layout_read.specs.NumberOrZero.{wordAt}
 use Rattle.script_words.specs.Texts.{wordFrom, wordCount}
 use Rattle.script_words.specs.Numbers.{decimalOf, smallOf}
 use Rattle.script_words.specs.Data.{isData, bytesSaid}
@@ -70,7 +70,7 @@ nameSaid w n =
 unfoldable pub lineKind : List ℕ → Kind
 lineKind l =
     pick (eqb (wordCount l) 0) Kinds.Nothing
-    (pick (eqb (length (wordFrom l 0)) 4) (nameSaid (numberAt (wordFrom l 0) 0) (wordCount l)) Kinds.Unknown)
+    (pick (eqb (length (wordFrom l 0)) 4) (nameSaid (wordAt (wordFrom l 0) 0) (wordCount l)) Kinds.Unknown)
 
 -- ---- Numbers
 

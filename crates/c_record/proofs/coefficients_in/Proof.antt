@@ -1,6 +1,5 @@
 use Prim.Native.Nat.{_-_}
 use mathlib.Core.Path.{_∙_}
-use native.Mathlib.Omega.{arith}
 use mir.Facts.{toZ-ofZ}
 use Rattle.c_record.proofs.ReadingLaws.{Signed, signed-start, signed-again, signed-end}
 use borrow.Author.Needs.{needs}
@@ -8,7 +7,7 @@ use Rattle.c_record.proofs.coefficients_in.Statement.{statement}
 use Rattle.c_record.proofs.coefficients_in.Tie as tie
 use Rattle.c_record.proofs.coefficients_in.Reads as reads
 use Rattle.c_record.proofs.coefficients_in.Lts as lts
-use Rattle.c_record.proofs.signed.Reads as signed-reads
+use Rattle.layout_read.proofs.number_or_zero.signed.Reads as signed-reads
 
 abbrev Inv-loop : tie.InvT-loop
 Inv-loop s at coefficients₀ i₀ coefficients i = Signed s at coefficients i

@@ -5,10 +5,10 @@ use Rattle.c_record.proofs.side_in.Statement.{statement}
 use Rattle.c_record.proofs.side_in.Tie as tie
 use Rattle.c_record.proofs.side_in.Reads as reads
 use Rattle.c_record.proofs.side_in.Lts as lts
-use Rattle.c_opened.proofs.fields.word.Reads as word-reads
+use Rattle.layout_read.proofs.number_or_zero.word.Reads as word-reads
 use Rattle.c_record.proofs.coefficients_in.Reads as coefficients-in-reads
-use Rattle.c_record.proofs.half.Reads as half-reads
-use Rattle.c_record.proofs.signed.Reads as signed-reads
+use Rattle.layout_read.proofs.number_or_zero.half.Reads as half-reads
+use Rattle.layout_read.proofs.number_or_zero.signed.Reads as signed-reads
 
 add-coefficients-in : tie.Need-add-coefficients-in
 add-coefficients-in c = search needs

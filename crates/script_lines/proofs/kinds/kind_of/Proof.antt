@@ -6,7 +6,7 @@ use Rattle.script_lines.proofs.kinds.kind_of.Tie as tie
 use Rattle.script_lines.proofs.kinds.kind_of.Reads as reads
 use Rattle.script_lines.proofs.kinds.kind_of.Lts as lts
 use Rattle.script_lines.proofs.kinds.named.Reads as named-reads
-use Rattle.replay_input.proofs.number.Reads as number-reads
+use Rattle.layout_read.proofs.number_or_zero.word.Reads as number-reads
 use Rattle.script_words.proofs.text.word.Reads as word-reads
 use Rattle.script_words.proofs.text.word_count.Reads as word-count-reads
 
@@ -24,8 +24,8 @@ returns-2 : tie.Need-returns-2
 unfolding lineKind
 returns-2 c = rw (← c .before .before .before .word-count .ensures, ne-eqb _ _ (c .before .before .if1 .left), ← c .before .word .ensures, ne-eqb _ _ (c .if2 .taken))
 
-number-requires : tie.Need-number-requires
-number-requires c κs = search needs
+word-requires-2 : tie.Need-word-requires-2
+word-requires-2 c κs = search needs
 
 named-requires : tie.Need-named-requires
 named-requires c κs = search needs
@@ -33,7 +33,7 @@ named-requires c κs = search needs
 returns-3 : tie.Need-returns-3
 unfolding lineKind
 returns-3 c =
-    rw (← c .before .before .before .before .before .word-count .ensures, ne-eqb _ _ (c .before .before .before .before .if1 .left), ← c .before .before .before .word .ensures, eq-eqb _ _ (c .before .before .if2 .left), ← c .before .number .ensures)
+    rw (← c .before .before .before .before .before .word-count .ensures, ne-eqb _ _ (c .before .before .before .before .if1 .left), ← c .before .before .before .word .ensures, eq-eqb _ _ (c .before .before .if2 .left), ← c .before .word2 .ensures)
     (c .named .ensures)
 
 pub kind-of-spec : {M : Type 1} → statement M
@@ -44,6 +44,6 @@ kind-of-spec =
     returns
     word-requires
     returns-2
-    number-requires
+    word-requires-2
     named-requires
     returns-3)

@@ -1,0 +1,63 @@
+use Prim.Native.Nat.{ℕ, _+_, _-_, _≤_, _<_}
+use mathlib.Core.Path.{_≡_}
+use mathlib.Core.List.{List, []}
+use native.Mathlib.Omega.{arith}
+use lib.ListN.{length, take, drop}
+use borrow.Author.Tests.{le-leb, lt-leb}
+use Rattle.replay.specs.Parts.{partAt}
+use denote.Ref.{now}
+use borrow.Author.Needs.{needs}
+use Rattle.layout.proofs.FieldLaws.{passed, failed}
+use Rattle.replay.proofs.input.part.Statement.{statement}
+use Rattle.replay.proofs.input.part.Tie as tie
+use Rattle.replay.proofs.input.part.Reads as reads
+use Rattle.replay.proofs.input.part.Lts as lts
+use Rattle.layout.proofs.fields.inside.Reads as inside-reads
+
+part-there : (s : List ℕ) (at n : ℕ) → at + n ≤ length s → take (at + n - at) (drop at s) ≡ partAt s at n
+unfolding partAt
+part-there s at n h = let e : at + n - at ≡ n = omega arith in rw (le-leb (at + n) (length s) h, e)
+
+part-missing : (s : List ℕ) (at n : ℕ) → length s < at + n → [] ≡ partAt s at n
+unfolding partAt
+part-missing s at n h = rw (lt-leb (at + n) (length s) h)
+
+inside-requires : tie.Need-inside-requires
+inside-requires c κs = search needs
+
+room : (c : tie.Then1) → c .before .before .before .args .at + c .before .before .before .args .n ≤ length (now (c .before .before .before .args .s))
+room c = passed (c .before .inside .ensures) (c .if1 .taken)
+
+add-end : tie.Need-add-end
+add-end c = let h = room c in omega arith
+
+sub-result : tie.Need-sub-result
+sub-result c = search needs
+
+part-result-start : tie.Need-part-result-start
+part-result-start c = search needs
+
+part-result-end : tie.Need-part-result-end
+part-result-end c = let h = room c in omega arith
+
+returns : tie.Need-returns
+returns c = part-there _ _ _ (room (c .before))
+
+slice-aggregate-result : tie.Need-slice-aggregate-result
+slice-aggregate-result c = search needs
+
+returns-2 : tie.Need-returns-2
+returns-2 c = part-missing _ _ _ (failed (c .before .before .inside .ensures) (c .before .if1 .left))
+
+pub part-spec : {M : Type 1} → statement M
+part-spec =
+    tie.close
+    (tie.spec
+    inside-requires
+    add-end
+    sub-result
+    part-result-start
+    part-result-end
+    returns
+    slice-aggregate-result
+    returns-2)

@@ -1,0 +1,47 @@
+use mathlib.Core.Path.{sym}
+use lib.Seq.{length-take-le}
+use borrow.Author.Needs.{needs}
+use Rattle.replay.proofs.loading.lend.Statement.{statement}
+use Rattle.replay.proofs.loading.lend.Tie as tie
+use Rattle.replay.proofs.loading.lend.Reads as reads
+use Rattle.replay.proofs.loading.lend.Lts as lts
+use Rattle.layout.proofs.least.Reads as least-reads
+use Rattle.replay.proofs.loading.run_call.Reads as run-call-reads
+use Rattle.replay.proofs.input.size.Reads as size-reads
+
+size-requires : tie.Need-size-requires
+size-requires c κs = search needs
+
+least-requires : tie.Need-least-requires
+least-requires c κs = search needs
+
+slice-relend-prefix-run-call : tie.Need-slice-relend-prefix-run-call
+slice-relend-prefix-run-call c = search needs
+
+slice-aggregate-run-call : tie.Need-slice-aggregate-run-call
+slice-aggregate-run-call c = sym (length-take-le _ _ (slice-relend-prefix-run-call (c .before)))
+
+run-call-requires : tie.Need-run-call-requires
+run-call-requires c κs = search needs
+
+same-length : tie.Need-same-length
+same-length c = search needs
+
+same-length-2 : tie.Need-same-length-2
+same-length-2 c = search needs
+
+returns : tie.Need-returns
+returns c = search needs
+
+pub lend-spec : {M : Type 1} → statement M
+lend-spec =
+    tie.close
+    (tie.spec
+    size-requires
+    least-requires
+    slice-relend-prefix-run-call
+    slice-aggregate-run-call
+    run-call-requires
+    same-length
+    same-length-2
+    returns)

@@ -1,0 +1,92 @@
+use Prim.Native.Nat.{_-_, _*_, _≤_}
+use mathlib.Core.Path.{_≡_}
+use native.Mathlib.Omega.{arith}
+use lib.ListN.{length}
+use borrow.Author.Needs.{needs}
+use Rattle.key_listing.proofs.LineLaws.{filled-fits, filled-inside, filled-prefix}
+use Rattle.replay.proofs.slot.is_listing.Statement.{statement}
+use Rattle.replay.proofs.slot.is_listing.Tie as tie
+use Rattle.replay.proofs.slot.is_listing.Reads as reads
+use Rattle.replay.proofs.slot.is_listing.Lts as lts
+use Rattle.check.proofs.same.Reads as same-reads
+use Rattle.io.proofs.large_buffer.Reads as large-buffer-reads
+use Rattle.key_listing.proofs.listing.fill.Reads as fill-reads
+use Rattle.key_listing.proofs.start.start_listing.Reads as start-listing-reads
+use Rattle.replay.proofs.input.part.Reads as part-reads
+
+abbrev Inv-loop : tie.InvT-loop
+Inv-loop s want r stage₀ out₀ done₀ turns₀ stage out done turns = (length out ≡ 65536) × (turns ≤ 100) × (done ≤ 65536 * turns)
+
+abbrev μ-loop : tie.MeasureT-loop
+μ-loop s want r stage₀ out₀ done₀ turns₀ stage out done turns = 100 - turns
+
+start-listing-requires : tie.Need-start-listing-requires Inv-loop μ-loop
+start-listing-requires c κs = search needs
+
+large-buffer-requires : tie.Need-large-buffer-requires Inv-loop μ-loop
+large-buffer-requires c κs = search needs
+
+loop-holds : tie.Need-loop-holds Inv-loop μ-loop
+loop-holds c = search needs
+
+slice-aggregate-fill : tie.Need-slice-aggregate-fill Inv-loop μ-loop
+slice-aggregate-fill c = search needs
+
+fill-requires : tie.Need-fill-requires Inv-loop μ-loop
+fill-requires c κs = search needs
+
+returns : tie.Need-returns Inv-loop μ-loop
+returns c = search needs
+
+array-share-prefix-out : tie.Need-array-share-prefix-out Inv-loop μ-loop
+array-share-prefix-out c = filled-inside (c .before .before .fill .ensures)
+
+slice-aggregate-same : tie.Need-slice-aggregate-same Inv-loop μ-loop
+slice-aggregate-same c = filled-prefix (c .before .before .before .fill .ensures)
+
+part-requires : tie.Need-part-requires Inv-loop μ-loop
+part-requires c κs = search needs
+
+same-requires : tie.Need-same-requires Inv-loop μ-loop
+same-requires c κs = search needs
+
+returns-2 : tie.Need-returns-2 Inv-loop μ-loop
+returns-2 c = search needs
+
+add-done : tie.Need-add-done Inv-loop μ-loop
+add-done c = omega (arith, filled-fits (c .before .before .before .before .before .before .fill .ensures))
+
+add-turns : tie.Need-add-turns Inv-loop μ-loop
+add-turns c = search needs
+
+loop-less : tie.Need-loop-less Inv-loop μ-loop
+loop-less c = search needs
+
+loop-again : tie.Need-loop-again Inv-loop μ-loop
+loop-again c = (search needs, omega arith, omega (arith, filled-fits (c .before .before .before .before .before .before .fill .ensures)))
+
+returns-3 : tie.Need-returns-3 Inv-loop μ-loop
+returns-3 c = search needs
+
+pub is-listing-spec : {M : Type 1} → statement M
+is-listing-spec =
+    tie.close
+    (tie.spec
+    Inv-loop
+    μ-loop
+    start-listing-requires
+    large-buffer-requires
+    loop-holds
+    slice-aggregate-fill
+    fill-requires
+    returns
+    array-share-prefix-out
+    slice-aggregate-same
+    part-requires
+    same-requires
+    returns-2
+    add-done
+    add-turns
+    loop-less
+    loop-again
+    returns-3)

@@ -1,0 +1,228 @@
+// A stream loaded through begin, cue, push and finish, with calls among them that are refused, held to recorded answers and bytes.
+use crate::input::part;
+use crate::input::size;
+use crate::server::is_applied;
+use check::same;
+use layout::FrameContext;
+use layout::least;
+use layout_put::put_bytes;
+use layout_read::channels::read_coefficients;
+use layout_read::number_or_zero::half;
+use layout_read::number_or_zero::long;
+use layout_read::number_or_zero::signed;
+use layout_read::number_or_zero::word;
+use writer::Called;
+use writer::ChannelBlock;
+use writer::Cue;
+use writer::CueKind;
+use writer::HpsWriter;
+use writer::Looping;
+use writer::begin;
+use writer_cue::cue;
+use writer_finish::finish;
+use writer_push::push;
+ghost use Prim.Native.Nat.{_<_};
+ghost use mathlib.Core.Path.{_≡_};
+ghost use lib.ListN.{length};
+ghost use Rattle.writer.specs.Calls.{Good};
+
+const STEPS: usize = 3000;
+
+const SLOT: usize = 262144;
+
+// The longest block: header, 128 cues, data.
+const LENT: usize = 66592;
+
+// What a step leaves: the record, and whether all went as the step says.
+pub struct Left {
+    pub writer: HpsWriter,
+    pub good: bool,
+}
+
+fn mode(n: u32) -> Looping {
+    match n {
+        0 => Looping::Disabled,
+        1 => Looping::Enabled,
+        _ => Looping::Auto,
+    }
+}
+
+fn kind(n: u32, length: u64) -> CueKind {
+    match n {
+        0 => CueKind::Point,
+        1 => CueKind::Loop,
+        _ => CueKind::Range(length),
+    }
+}
+
+// What a push says of a channel.
+fn side(s: &[u8], at: usize) -> ChannelBlock
+    requires { ⌜ at < 8589934592 ⌝ }
+{
+    let read = read_coefficients(s, at + 12);
+    let coefficients = read.coefficients;
+    let context = FrameContext {
+        predictor_and_scale: half(s, at + 46),
+        last: signed(s, at + 48),
+        oldest: signed(s, at + 50),
+    };
+    ChannelBlock {
+        rate: word(s, at),
+        length: long(s, at + 4) as usize,
+        coefficients,
+        gain: half(s, at + 44),
+        context,
+    }
+}
+
+// Begin on the slot as it stands.
+fn make_begin(step: &[u8], lent: &mut [u8]) -> Called
+    ensures { λ q. ⌜ Good (q .writer) ⌝ }
+{
+    begin(size(step, 8), size(step, 12), mode(word(step, 16)), lent)
+}
+
+fn make_cue(step: &[u8], w: HpsWriter) -> Called
+    requires { ⌜ Good w ⌝ }
+    ensures { λ q. ⌜ Good (q .writer) ⌝ }
+{
+    let kind = kind(word(step, 12), long(step, 36));
+    cue(
+        w,
+        Cue {
+            start: long(step, 16),
+            kind,
+            name: word(step, 32),
+        },
+    )
+}
+
+fn make_push(step: &[u8], w: HpsWriter, lent: &mut [u8]) -> Called
+    requires { ⌜ Good w ⌝ }
+    ensures { λ q. ⌜ Good (q .writer) ⌝ }
+{
+    let many = size(step, 20);
+    push(
+        w,
+        size(step, 12),
+        side(step, 32),
+        side(step, 84 + many),
+        part(step, 84, many),
+        part(step, 136 + many, size(step, 24)),
+        word(step, 16) == 1,
+        lent,
+    )
+}
+
+fn make(step: &[u8], w: HpsWriter, lent: &mut [u8]) -> Called
+    requires { ⌜ Good w ⌝ }
+    ensures { λ q. ⌜ Good (q .writer) ⌝ }
+{
+    match word(step, 0) {
+        2 => make_begin(step, lent),
+        3 => make_cue(step, w),
+        4 => make_push(step, w, lent),
+        _ => finish(w, lent),
+    }
+}
+
+fn run_call(step: &[u8], w: HpsWriter, slot: &mut [u8], lent: &mut [u8]) -> Left
+    requires { ⌜ Good w ⌝ }
+    ensures { λ q. ⌜ Good (q .writer) ⌝ }
+{
+    let call = make(step, w, lent);
+    let writer = call.writer;
+    let reply = call.reply;
+    let good = is_applied(
+        slot,
+        size(step, 8),
+        reply,
+        word(step, 4),
+        size(step, 12),
+        lent,
+    );
+    Left { writer, good }
+}
+
+// A call that is lent so many bytes of this buffer.
+fn lend(step: &[u8], w: HpsWriter, slot: &mut [u8], lent: &mut [u8]) -> Left
+    requires { ⌜ Good w ⌝ }
+    ensures { λ q. ⌜ Good (q .writer) ⌝ }
+{
+    let most = least(size(step, 28), lent.len());
+    run_call(step, w, slot, &mut lent[..most])
+}
+
+// Whether these bytes lie in the slot.
+fn has_bytes(slot: &[u8], at: usize, bytes: &[u8]) -> bool {
+    same(part(slot, at, bytes.len()), bytes)
+}
+
+// 0 what is done, 4 the number of the refusal, or 0, 8 the slot's length, with bytes their place; then what the call is given.
+fn run_step(step: &[u8], w: HpsWriter, slot: &mut [u8], lent: &mut [u8]) -> Left
+    requires { ⌜ Good w ⌝ }
+    ensures { λ q. ⌜ Good (q .writer) ⌝ }
+{
+    let n = size(step, 8);
+    match word(step, 0) {
+        1 => {
+            put_bytes(slot, n, part(step, 32, size(step, 12)));
+            Left {
+                writer: w,
+                good: true,
+            }
+        }
+        2..=5 => lend(step, w, slot, lent),
+        6 => {
+            let good = has_bytes(slot, n, part(step, 32, size(step, 12)));
+            Left { writer: w, good }
+        }
+        _ => Left {
+            writer: w,
+            good: false,
+        },
+    }
+}
+
+// Steps one after the other, each with its length before it. Gives 0, or 1 and the number of the first that went another way; 1 where there is none.
+fn other_step(body: &[u8], begun: HpsWriter, slot: &mut [u8], lent: &mut [u8]) -> usize
+    requires { ⌜ Good begun ⌝ }
+{
+    let mut w = begun;
+    let mut at: usize = 0;
+    let mut steps: usize = 0;
+    while steps < STEPS {
+        let n = size(body, at);
+        let left = run_step(part(body, at + 4, n), w, slot, lent);
+        if !left.good {
+            return 1 + steps;
+        }
+        w = left.writer;
+        at = at + 4 + n;
+        if at >= body.len() {
+            return 0;
+        }
+        steps += 1;
+    }
+    1 + steps
+}
+
+fn empty_slot() -> [u8; SLOT]
+    ensures { λ r. ⌜ 262144 ≡ length r ⌝ }
+{
+    [0; SLOT]
+}
+
+fn lent_buffer() -> [u8; LENT]
+    ensures { λ r. ⌜ 66592 ≡ length r ⌝ }
+{
+    [7; LENT]
+}
+
+// The steps over a slot of zeros, before any begin.
+pub(crate) fn loading_case(body: &[u8]) -> usize {
+    let mut slot = empty_slot();
+    let mut lent = lent_buffer();
+    let none = begin(0, 0, Looping::Auto, &mut lent);
+    other_step(body, none.writer, &mut slot, &mut lent)
+}

@@ -1,0 +1,84 @@
+// What a recorded call must answer, and the server's part after it: the writes that are handed out are carried out, and after each the slot is opened, up to
+// finish's last write with 2 or 3, then as a stream.
+use crate::input::part;
+use layout::fields::inside;
+use layout_put::put_bytes;
+use reader::answers::OpenReply;
+use reader_open::open;
+use writer::Place;
+use writer::Reply;
+
+// Whether the slot opens; with 2 or 3 where it must not.
+fn opens_as(s: &[u8], opens: bool) -> bool {
+    let opened = open(s);
+    let reply = opened.reply;
+    match reply {
+        OpenReply::Opened => opens,
+        OpenReply::Refused(n) => {
+            if opens {
+                return false;
+            }
+            if n == 2 {
+                return true;
+            }
+            n == 3
+        }
+    }
+}
+
+// The server carries a write out, and opens the slot.
+fn apply_write(slot: &mut [u8], n: usize, place: Place, bytes: &[u8], opens: bool) -> bool {
+    if !inside(n, place.offset, place.length) {
+        return false;
+    }
+    put_bytes(slot, place.offset, bytes);
+    opens_as(part(slot, 0, n), opens)
+}
+
+// Finish's three writes: their bytes lie in the lent buffer one after the other.
+fn apply_header(
+    slot: &mut [u8],
+    n: usize,
+    start: Place,
+    rest: Place,
+    mark: Place,
+    lent: &[u8],
+) -> bool {
+    if !apply_write(slot, n, start, part(lent, 0, 15), false) {
+        return false;
+    }
+    if !apply_write(slot, n, rest, part(lent, 15, 112), false) {
+        return false;
+    }
+    apply_write(slot, n, mark, part(lent, 127, 1), true)
+}
+
+// Whether a call answered with this number, or with 0 if it was accepted, finish with this length too; the writes of an accepted call are carried out.
+pub(crate) fn is_applied(
+    slot: &mut [u8],
+    n: usize,
+    reply: Reply,
+    due: u32,
+    length: usize,
+    lent: &[u8],
+) -> bool {
+    match reply {
+        Reply::Refused(number) => number == due,
+        Reply::NoWrite => due == 0,
+        Reply::OneWrite(place) => {
+            if due != 0 {
+                return false;
+            }
+            apply_write(slot, n, place, part(lent, 0, place.length), false)
+        }
+        Reply::ThreeWrites(finished, start, rest, mark) => {
+            if due != 0 {
+                return false;
+            }
+            if finished != length {
+                return false;
+            }
+            apply_header(slot, n, start, rest, mark, lent)
+        }
+    }
+}

@@ -23,6 +23,8 @@ use Rattle.writer.specs.declared.Called.{Called}
 use Rattle.writer.specs.Calls.{held, withTable, afterCue, cueOf, called, Good}
 use Rattle.writer.proofs.DueLaws.{passed-cue}
 use Rattle.writer.proofs.GoodLaws.{cue-kept}
+use Rattle.writer_cue.specs.CueOrder.{foundIn}
+use Rattle.writer_cue.specs.declared.Found.{Found}
 
 -- ---- Start and range length
 
@@ -94,9 +96,15 @@ held-count w g = length-take (w .table .count) (w .table .cues) ∙ omega (arith
 pub room-left : (n : ℕ) (b f : Bool) (k r : ℕ) → r ≡ cueOrder n b f k → r ≡ 0 → f ≡ false → k < cueLimit
 room-left n b f k r e z h = leb-false cueLimit k (rw h at (passed-cue _ _ _ (sym e ∙ z) .no20))
 
-is-due : (w : HpsWriter) (c : Cue) → Good w → (b f : Bool) (r : ℕ) → b ≡ (ltb startLimit (c .start) or zeroRange (c .kind)) → f ≡ has c (held w)
-    → r ≡ cueOrder (w .stream .blocks) b f (w .table .count) → r ≡ cueRefusal (w .stream .blocks) (held w) c
-is-due w c g b f r eb ef er = er ∙ rw (eb, ef, held-count w g)
+equal-is : (w : HpsWriter) (c : Cue) {f : Found} → f ≡ foundIn c (held w) → f .equal ≡ has c (held w)
+equal-is w c e = rw e
+
+due-is : (w : HpsWriter) (c : Cue) → Good w → {b : Bool} {f : Found} {r : ℕ} → b ≡ (ltb startLimit (c .start) or zeroRange (c .kind)) → f ≡ foundIn c (held w)
+    → r ≡ cueOrder (w .stream .blocks) b (f .equal) (w .table .count) → r ≡ cueRefusal (w .stream .blocks) (held w) c
+due-is w c g eb ef er = er ∙ rw (eb, equal-is w c ef, held-count w g)
+
+pub place-inside : (w : HpsWriter) (c : Cue) (f : Found) → f ≡ foundIn c (held w) → f .place ≤ w .table .count
+place-inside w c f e = rw e (omega (arith, place-most c (held w), length-take (w .table .count) (w .table .cues)))
 
 module _ (w : HpsWriter) (c : Cue) (g : Good w) {q : Called} where
   and-good : q ≡ called (cueOf w c) → Answers w c q
@@ -110,24 +118,23 @@ module _ (w : HpsWriter) (c : Cue) (g : Good w) {q : Called} where
   unfolding cueOf
   accepts-as v e r h = and-good (e ∙ rw (r, h))
 
-  module _ {b f : Bool} {r : ℕ} (eb : b ≡ (ltb startLimit (c .start) or zeroRange (c .kind))) (ef : f ≡ has c (held w)) (er : r ≡ cueOrder (w .stream .blocks) b f (w .table .count)) where
+  module _ {b : Bool} {f : Found} {r : ℕ} (eb : b ≡ (ltb startLimit (c .start) or zeroRange (c .kind))) (ef : f ≡ foundIn c (held w))
+      (er : r ≡ cueOrder (w .stream .blocks) b (f .equal) (w .table .count)) where
     pub refused-cue : q ≡ record { reply = Refused r; writer = w } → (r ≡ 0 → ⊥) → Answers w c q
-    refused-cue e h = refuses-with r e (sym (is-due w c g b f r eb ef er)) h
+    refused-cue e h = refuses-with r e (sym (due-is w c g eb ef er)) h
 
     module _ (none : r ≡ 0) where
-      pub equal-cue : q ≡ record { reply = NoWrite; writer = w } → f ≡ true → Answers w c q
+      pub equal-cue : q ≡ record { reply = NoWrite; writer = w } → f .equal ≡ true → Answers w c q
       unfolding afterCue
-      equal-cue e h = accepts-as w e (sym (is-due w c g b f r eb ef er) ∙ none) (rw (sym ef ∙ h))
+      equal-cue e h = accepts-as w e (sym (due-is w c g eb ef er) ∙ none) (rw (sym (equal-is w c ef) ∙ h))
 
-      pub new-cue : {i : ℕ} {u : List Cue} → q ≡ record { reply = NoWrite; writer = withTable w u (w .table .count + 1) } → f ≡ false
-          → i ≡ firstIndex (before c) (held w) → u ≡ take i (w .table .cues) ++ (c ∷ (take (w .table .count - i) (drop i (w .table .cues)) ++ drop (w .table .count + 1) (w .table .cues)))
+      pub new-cue : {u : List Cue} → q ≡ record { reply = NoWrite; writer = withTable w u (w .table .count + 1) } → f .equal ≡ false
+          → u ≡ take (f .place) (w .table .cues) ++ (c ∷ (take (w .table .count - f .place) (drop (f .place) (w .table .cues)) ++ drop (w .table .count + 1) (w .table .cues)))
           → Answers w c q
       unfolding afterCue
-      new-cue {i} {u} e h ei eu =
-          let il : i ≤ w .table .count = omega (arith, place-most c (held w), held-count w g) in
+      new-cue {u} e h eu =
+          let ei : f .place ≡ firstIndex (before c) (held w) = rw ef in
+          let il : f .place ≤ w .table .count = place-inside w c f ef in
           let new : u ≡ insert c (held w) ++ drop (w .table .count + 1) (w .table .cues) =
-          eu ∙ rw (inserted c (held w), ← ei, take-take i (w .table .count) (w .table .cues) il, drop-take i (w .table .count) (w .table .cues)) (simp append-assoc) in
-          accepts-as (withTable w u (w .table .count + 1)) e (sym (is-due w c g b f r eb ef er) ∙ none) (rw (sym ef ∙ h, new))
-
-pub place-inside : (w : HpsWriter) (c : Cue) (i : ℕ) → i ≡ firstIndex (before c) (held w) → i ≤ w .table .count
-place-inside w c i e = omega (arith, place-most c (held w), length-take (w .table .count) (w .table .cues))
+          eu ∙ rw (inserted c (held w), ← ei, take-take (f .place) (w .table .count) (w .table .cues) il, drop-take (f .place) (w .table .count) (w .table .cues)) (simp append-assoc) in
+          accepts-as (withTable w u (w .table .count + 1)) e (sym (due-is w c g eb ef er) ∙ none) (rw (sym (equal-is w c ef) ∙ h, new))

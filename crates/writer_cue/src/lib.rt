@@ -11,11 +11,11 @@ ghost use mathlib.Core.Path.{_≡_};
 ghost use mathlib.Core.List.{_∷_, _++_};
 ghost use Prim.Native.Nat.{_+_, _-_, _<_, _≤_};
 ghost use lib.ListN.{take, drop};
-ghost use Rattle.layout.specs.Lists.{same, firstIndex};
-ghost use Rattle.writer.specs.Loading.{rank, rangeLength, fields, before, has, zeroRange, cueOrder};
+ghost use Rattle.writer.specs.Loading.{rank, rangeLength, zeroRange, cueOrder};
 ghost use Rattle.layout.specs.Refusals.{cueLimit, startLimit};
 ghost use lib.Dec.{ltb};
 ghost use Rattle.layout.specs.Choice.{_or_};
+ghost use Rattle.writer_cue.specs.CueOrder.{numberOrder, cueOrdering, thenBy, foundIn};
 ghost use Rattle.writer.specs.Calls.{Good, cueOf, called};
 
 fn rank(k: CueKind) -> u64
@@ -38,79 +38,73 @@ fn range_length(k: CueKind) -> u64
     }
 }
 
+// How one comes to another in the order of cues.
+enum Order {
+    Before,
+    Same,
+    After,
+}
+
+fn number_order(x: u64, y: u64) -> Order
+    ensures { λ o. ⌜ o ≡ numberOrder x y ⌝ }
+{
+    if x < y {
+        return Order::Before;
+    }
+    if x == y { Order::Same } else { Order::After }
+}
+
+fn then_by(first: Order, rest: Order) -> Order
+    ensures { λ o. ⌜ o ≡ thenBy first rest ⌝ }
+{
+    match first {
+        Order::Before => Order::Before,
+        Order::Same => rest,
+        Order::After => Order::After,
+    }
+}
+
 // Cues are ordered by start, kind, range length, name.
-fn is_before(c: Cue, d: Cue) -> bool
-    ensures { λ r. ⌜ r ≡ before c d ⌝ }
+fn compare(c: Cue, d: Cue) -> Order
+    ensures { λ o. ⌜ o ≡ cueOrdering c d ⌝ }
 {
-    if c.start != d.start {
-        return c.start < d.start;
-    }
     let ck = c.kind;
     let dk = d.kind;
-    let cr = rank(ck);
-    let dr = rank(dk);
-    if cr != dr {
-        return cr < dr;
-    }
-    let cl = range_length(ck);
-    let dl = range_length(dk);
-    if cl != dl {
-        return cl < dl;
-    }
-    c.name < d.name
+    let starts = number_order(c.start, d.start);
+    let kinds = number_order(rank(ck), rank(dk));
+    let lengths = number_order(range_length(ck), range_length(dk));
+    let names = number_order(c.name as u64, d.name as u64);
+    then_by(starts, then_by(kinds, then_by(lengths, names)))
 }
 
-fn is_same(c: Cue, d: Cue) -> bool
-    ensures { λ r. ⌜ r ≡ same (fields c) (fields d) ⌝ }
-{
-    if c.start != d.start {
-        return false;
-    }
-    let ck = c.kind;
-    let dk = d.kind;
-    let cr = rank(ck);
-    let dr = rank(dk);
-    if cr != dr {
-        return false;
-    }
-    let cl = range_length(ck);
-    let dl = range_length(dk);
-    if cl != dl {
-        return false;
-    }
-    c.name == d.name
+// Where a cue belongs, and whether an equal one is there.
+struct Found {
+    place: usize,
+    equal: bool,
 }
 
-// Whether an equal cue is among the first n of the table.
-fn holds(t: [Cue; CUE_LIMIT], n: usize, c: Cue) -> bool
+// Among the first n of the table: the place is that of the first cue that c comes before, or past them all.
+fn search(t: [Cue; CUE_LIMIT], n: usize, c: Cue) -> Found
     requires { ⌜ n ≤ cueLimit ⌝ }
-    ensures { λ r. ⌜ r ≡ has c (take n t) ⌝ }
+    ensures { λ q. ⌜ q ≡ foundIn c (take n t) ⌝ }
 {
-    let mut i: usize = 0;
-    while i < n {
+    let mut place = n;
+    let mut equal = false;
+    let mut i = n;
+    while 0 < i {
+        i -= 1;
         let d = t[i];
-        if is_same(c, d) {
-            return true;
+        match compare(c, d) {
+            Order::Before => {
+                place = i;
+            }
+            Order::Same => {
+                equal = true;
+            }
+            Order::After => {}
         }
-        i += 1;
     }
-    false
-}
-
-// The place among the first n: that of the first cue that c comes before, or past them all.
-fn place_of(t: [Cue; CUE_LIMIT], n: usize, c: Cue) -> usize
-    requires { ⌜ n ≤ cueLimit ⌝ }
-    ensures { λ r. ⌜ r ≡ firstIndex (before c) (take n t) ⌝ }
-{
-    let mut i: usize = 0;
-    while i < n {
-        let d = t[i];
-        if is_before(c, d) {
-            return i;
-        }
-        i += 1;
-    }
-    i
+    Found { place, equal }
 }
 
 // The cue at i, and what stood from i to n one place later.
@@ -190,16 +184,15 @@ pub fn cue(w: HpsWriter, c: Cue) -> Called
     let bad = is_bad(c.start, kind);
     let t = w.table.cues;
     let n = w.table.count;
-    let held = holds(t, n, c);
-    let r = cue_due(w.stream.blocks, bad, held, n);
+    let found = search(t, n, c);
+    let r = cue_due(w.stream.blocks, bad, found.equal, n);
     if r != 0 {
         return refused(w, r);
     }
-    if held {
+    if found.equal {
         return accepted(w);
     }
-    let i = place_of(t, n, c);
-    let u = put_in(t, n, i, c);
+    let u = put_in(t, n, found.place, c);
     let count = n + 1;
     let table = CueTable { cues: u, count };
     accepted(HpsWriter { table, ..w })

@@ -7,8 +7,8 @@ use Rattle.writer_cue.proofs.cue.Tie as tie
 is-bad-requires : tie.Need-is-bad-requires
 is-bad-requires c κs = search needs
 
-holds-requires : tie.Need-holds-requires
-holds-requires c κs = search needs
+search-requires : tie.Need-search-requires
+search-requires c κs = search needs
 
 cue-due-requires : tie.Need-cue-due-requires
 cue-due-requires c κs = search needs
@@ -21,7 +21,7 @@ returns c =
     let d = c .before .before in
     let b = d .before .before .before in
     let s = b .before in
-    refused-cue (s .args .w) (s .args .c) (s .pre) (b .is-bad .ensures) (d .before .holds .ensures) (d .cue-due .ensures) (c .refused .ensures) (c .before .if1 .taken)
+    refused-cue (s .args .w) (s .args .c) (s .pre) (b .is-bad .ensures) (d .before .search .ensures) (d .cue-due .ensures) (c .refused .ensures) (c .before .if1 .taken)
 
 accepted-requires : tie.Need-accepted-requires
 accepted-requires c κs = search needs
@@ -31,16 +31,14 @@ returns-2 c =
     let d = c .before .before .before in
     let b = d .before .before .before in
     let s = b .before in
-    equal-cue (s .args .w) (s .args .c) (s .pre) (b .is-bad .ensures) (d .before .holds .ensures) (d .cue-due .ensures) (c .before .before .if1 .left) (c .accepted .ensures) (c .before .if2 .taken)
-
-place-of-requires : tie.Need-place-of-requires
-place-of-requires c κs = search needs
+    equal-cue (s .args .w) (s .args .c) (s .pre) (b .is-bad .ensures) (d .before .search .ensures) (d .cue-due .ensures) (c .before .before .if1 .left) (c .accepted .ensures) (c .before .if2 .taken)
 
 put-in-requires : tie.Need-put-in-requires
 put-in-requires c κs =
-    let d = c .before .before .before in
+    let d = c .before .before in
     let b = d .before .before .before in
-    (search (place-inside, needs), room-left (b .before .args .w .stream .blocks) (b .is-bad .result) _ _ _ (d .cue-due .ensures) (c .before .before .if1 .left) (c .before .if2 .left))
+    let s = b .before in
+    (place-inside (s .args .w) (s .args .c) _ (d .before .search .ensures), room-left (s .args .w .stream .blocks) (b .is-bad .result) _ _ _ (d .cue-due .ensures) (c .before .if1 .left) (c .if2 .left))
 
 add-count : tie.Need-add-count
 add-count c = omega arith
@@ -50,25 +48,24 @@ accepted-requires-2 c κs = search needs
 
 returns-3 : tie.Need-returns-3
 returns-3 c =
-    let p = c .before .before .before .before in
+    let p = c .before .before .before in
     let d = p .before .before .before in
     let b = d .before .before .before in
     let s = b .before in
-    new-cue (s .args .w) (s .args .c) (s .pre) (b .is-bad .ensures) (d .before .holds .ensures) (d .cue-due .ensures) (p .before .before .if1 .left) (c .accepted2 .ensures) (p .before .if2 .left)
-    (p .place-of .ensures) (c .before .before .before .put-in .ensures)
+    new-cue (s .args .w) (s .args .c) (s .pre) (b .is-bad .ensures) (d .before .search .ensures) (d .cue-due .ensures) (p .before .before .if1 .left) (c .accepted2 .ensures) (p .before .if2 .left)
+    (p .put-in .ensures)
 
 pub cue-spec : {M : Type 1} → statement M
 cue-spec =
     tie.close
     (tie.spec
     is-bad-requires
-    holds-requires
+    search-requires
     cue-due-requires
     refused-requires
     returns
     accepted-requires
     returns-2
-    place-of-requires
     put-in-requires
     add-count
     accepted-requires-2

@@ -71,11 +71,11 @@ module _ {start first : List ℕ} {ws : List Write} {from total : ℕ} {slot : L
         ends = inl (z ∙ add-one total);
       }
 
-  module _ {after : List ℕ} {b : Bool} (l : m < total) (n : length after ≡ length slot) (byte : after ≡ nextByte slot ws m) where
+  module _ {after : List ℕ} (l : m < total) (n : length after ≡ length slot) (byte : after ≡ nextByte slot ws m) where
     step : (s : List ℕ) → slot ≡ slotAt s ws m → after ≡ slotAt s ws (m + 1)
     step s e = byte ∙ rw e (next-slot s ws m)
 
-    pub going-more : b ≡ true → (b ≡ true → listing first ≡ listing after) → Going start first ws from total after (m + 1)
+    pub going-more : {b : Bool} → b ≡ true → (b ≡ true → listing first ≡ listing after) → Going start first ws from total after (m + 1)
     going-more y alike =
         record {
           long = n ∙ g .long;
@@ -88,7 +88,7 @@ module _ {start first : List ℕ} {ws : List Write} {from total : ℕ} {slot : L
               (λ t. let q = eqb-false k (m + 1) t in g .same s e f k a (omega arith));
         }
 
-    pub run-other : b ≡ false → (b ≡ false → listing first ≡ listing after → ⊥) → (s : List ℕ) → start ≡ slotAt s ws from → first ≡ start → RunEnds s ws from total (listing first) (m + 1) after
+    pub run-other : {b : Bool} → b ≡ false → (b ≡ false → listing first ≡ listing after → ⊥) → (s : List ℕ) → start ≡ slotAt s ws from → first ≡ start → RunEnds s ws from total (listing first) (m + 1) after
     run-other y unlike s e f =
         record {
           later = omega (arith, g .low);

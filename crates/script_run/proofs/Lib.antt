@@ -1,3 +1,4 @@
 pub mod CallLaws
 pub mod LoadLaws
 pub mod BeginLaws
+pub mod LogLaws

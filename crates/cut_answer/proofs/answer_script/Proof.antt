@@ -1,5 +1,6 @@
 use native.Mathlib.Omega.{arith}
 use borrow.Author.Needs.{needs}
+use Rattle.script_run.proofs.LogLaws.{loaded-listed, loaded-is}
 use Rattle.cut_answer.proofs.RunLaws.{copy-first, copy-length}
 use Rattle.cut_answer.proofs.answer_script.Statement.{statement}
 use Rattle.cut_answer.proofs.answer_script.Tie as tie
@@ -41,7 +42,9 @@ slice-aggregate-show-2 : tie.Need-slice-aggregate-show-2
 slice-aggregate-show-2 c = search needs
 
 show-requires : tie.Need-show-requires
-show-requires c κs = ((c .before .before .before .before .before .before .before .before .before .before .load .ensures .1, c .before .before .before .before .before .before .before .before .before .before .load .ensures .0 (c .before .before .before .before .before .before .before .before .before .before .before .before .before .before .before .before .pre) (omega (arith, c .before .before .before .before .before .before .before .before .before .before .before .before .before .log-room .ensures)) .is (c .before .before .before .before .before .before .before .before .if1 .left)), copy-first _ _ (search needs) (c .before .before .before .before .put-bytes .ensures))
+show-requires c κs =
+    let made = c .before .before .before .before .before .before .before .before .before .before .load .ensures in
+    ((loaded-listed _ _ _ made, loaded-is _ _ _ made (c .before .before .before .before .before .before .before .before .before .before .before .before .before .before .before .before .pre) (omega (arith, c .before .before .before .before .before .before .before .before .before .before .before .before .before .log-room .ensures)) (c .before .before .before .before .before .before .before .before .if1 .left)), copy-first _ _ (search needs) (c .before .before .before .before .put-bytes .ensures))
 
 returns-3 : tie.Need-returns-3
 returns-3 c = search needs

@@ -88,7 +88,8 @@ module _ {start first : List ℕ} {ws : List Write} {from total : ℕ} {slot : L
               (λ t. let q = eqb-false k (m + 1) t in g .same s e f k a (omega arith));
         }
 
-    pub run-other : {b : Bool} → b ≡ false → (b ≡ false → listing first ≡ listing after → ⊥) → (s : List ℕ) → start ≡ slotAt s ws from → first ≡ start → RunEnds s ws from total (listing first) (m + 1) after
+    pub run-other : {b : Bool} → b ≡ false → (b ≡ false → listing first ≡ listing after → ⊥) → (s : List ℕ) → start ≡ slotAt s ws from → first ≡ start
+        → RunEnds s ws from total (listing first) (m + 1) after
     run-other y unlike s e f =
         record {
           later = omega (arith, g .low);

@@ -106,7 +106,8 @@ pub record Tallied (o : Outcome) (g after : Logging) : Type 0 where
   pub put : after .bytes ≡ putAt (g .bytes) (g .log .total) (handed (writes o))
 
 module _ (n : ℕ) (w : HpsWriter) (lent : List ℕ) (next : HpsWriter) (h : Handed) (g : Logging) where
-  tallied : Tally (g .log) w (g .bytes) → Fits n w lent next h (g .log) (g .bytes) → Counts n w lent next h (g .log) (g .bytes) → Tallied (outcome n w lent next h) g (logAfter (outcome n w lent next h) g)
+  tallied : Tally (g .log) w (g .bytes) → Fits n w lent next h (g .log) (g .bytes) → Counts n w lent next h (g .log) (g .bytes)
+      → Tallied (outcome n w lent next h) g (logAfter (outcome n w lent next h) g)
   unfolding logAfter writes
   tallied t f c =
       let o = outcome n w lent next h in
@@ -216,7 +217,8 @@ module _ (slot ch : ℕ) (mode : Looping) (lent logged : List ℕ) where
   unfolding writes
   begin-put room = begin-logs room .put
 
-  tally-of : {q : WriteLog} {after : List ℕ} → logSize ≤ length logged → slot ≤ keyLimit → answerOf begun ≡ accepted 0 → Logs emptyLog logged (begun .lent) (placesIn (begun .reply)) q after → Tally q (begun .writer) after
+  tally-of : {q : WriteLog} {after : List ℕ} → logSize ≤ length logged → slot ≤ keyLimit → answerOf begun ≡ accepted 0
+      → Logs emptyLog logged (begun .lent) (placesIn (begun .reply)) q after → Tally q (begun .writer) after
   unfolding beginOf sizes sum
   tally-of {q} room small a n =
       by-cases (eqb (beginRefusal slot ch (length lent)) 0)

@@ -77,7 +77,8 @@ fn log_three(
 
 // The writes that a call's reply hands out.
 pub fn log_reply(j: WriteLog, reply: Reply, lent: &[u8], logged: &mut [u8]) -> WriteLog
-    ensures { λ q. ⌜ (q ≡ logAll (logging j (now (logged .entry))) (now (lent .entry)) 0 (placesIn reply) .log) × (now (logged .exit) ≡ logAll (logging j (now (logged .entry))) (now (lent .entry)) 0 (placesIn reply) .bytes) ⌝ }
+    ensures { λ q. ⌜ q ≡ logAll (logging j (now (logged .entry))) (now (lent .entry)) 0 (placesIn reply) .log ⌝ }
+    ensures { λ q. ⌜ now (logged .exit) ≡ logAll (logging j (now (logged .entry))) (now (lent .entry)) 0 (placesIn reply) .bytes ⌝ }
 {
     match reply {
         Reply::Refused(_) => j,

@@ -5,7 +5,7 @@ use mathlib.Core.List.{List, [], _∷_}
 use native.Mathlib.Omega.{arith}
 use native.Mathlib.Numerals.{add-one}
 use lib.ListN.{length, take, drop, getD, set, length-take, length-drop, drop-of-length-le}
-use lib.Seq.{take-all, take-suc, length-take-le, drop-cons, drop-drop, getD-take}
+use lib.Seq.{take-suc, length-take-le, drop-cons, drop-drop, getD-take}
 use lib.Dec.{leb}
 use borrow.Author.Tests.{le-leb, lt-leb, leb-true, leb-false}
 use Rattle.layout.specs.Lists.{put}
@@ -168,7 +168,8 @@ module _ {start : List ℕ} {places : List Place} {count : ℕ} {bytes : List �
       next : slotAt start (writesIn (take count places) bytes) moment ≡ slotAt slot (write (getD places i d .offset) (take size (drop at bytes)) ∷ others places count bytes (i + 1) (at + size)) left
       next = c .is ∙ ap (λ (ws : List Write). slotAt slot ws left) (opened (c .walk) d l z)
 
-      pub carried-part : {t : List ℕ} (n : ℕ) → n ≡ size → left < size → t ≡ reached slot (write (getD places i d .offset) (take n (drop at bytes))) left → t ≡ slotAt start (writesIn (take count places) bytes) moment
+      pub carried-part : {t : List ℕ} (n : ℕ) → n ≡ size → left < size → t ≡ reached slot (write (getD places i d .offset) (take n (drop at bytes))) left
+          → t ≡ slotAt start (writesIn (take count places) bytes) moment
       unfolding slotAt
       carried-part n q h e = e ∙ rw q (sym (next ∙ rw (part-length (c .walk) d l z, lt-leb size left h)))
 
@@ -202,7 +203,8 @@ module _ {slot : List ℕ} {places : List Place} {count : ℕ} {bytes : List ℕ
       after : nextByte slot (writesIn (take count places) bytes) moment ≡ nextByte slot (write (getD places i d .offset) (take size (drop at bytes)) ∷ others places count bytes (i + 1) (at + size)) left
       after = c .is ∙ ap (λ (ws : List Write). nextByte slot ws left) (opened (c .walk) d l z)
 
-      pub passing-here : {u : List ℕ} (n : ℕ) → n ≡ size → left < size → u ≡ reachedNext t (write (getD places i d .offset) (take n (drop at bytes))) left → u ≡ nextByte slot (writesIn (take count places) bytes) moment
+      pub passing-here : {u : List ℕ} (n : ℕ) → n ≡ size → left < size → u ≡ reachedNext t (write (getD places i d .offset) (take n (drop at bytes))) left
+          → u ≡ nextByte slot (writesIn (take count places) bytes) moment
       unfolding nextByte
       passing-here n q h e = e ∙ rw (q, same) (sym (after ∙ rw (part-length (c .walk) d l z, lt-leb size left h)))
 

@@ -27,7 +27,8 @@ use Rattle.script_run.specs.declared.loading.Loaded.{Loaded}
 use Rattle.layout.specs.Refusals.{slotLimit, slotLeast, keyLimit}
 
 -- Begin's answer is a refusal, or 0; a slot of more than 65,536 bytes is refused.
-pub begin-accepted : (n ch : ℕ) (b : BeginLine) (lent : List ℕ) → isRefused (answerOf (beginOf n ch (b .mode) lent)) ≡ false → (beginRefusal n ch (length lent) ≡ 0) × (answerOf (beginOf n ch (b .mode) lent) ≡ accepted 0)
+pub begin-accepted : (n ch : ℕ) (b : BeginLine) (lent : List ℕ) → isRefused (answerOf (beginOf n ch (b .mode) lent)) ≡ false
+    → (beginRefusal n ch (length lent) ≡ 0) × (answerOf (beginOf n ch (b .mode) lent) ≡ accepted 0)
 unfolding beginOf
 begin-accepted n ch b lent h =
     by-cases (eqb (beginRefusal n ch (length lent)) 0)
@@ -81,7 +82,8 @@ module _ (slot : ℕ) (logged : List ℕ) {n : ℕ} {s line : List ℕ} {st : St
       (e ∙ rw a, made .1 .0 ∙ rw (is-begins, refused-log (begins slot s) (logging emptyLog logged) a, a))
 
   pub loads-all : (next : ℕ) {q : Loaded} {k : List ℕ} → r ≡ false → drop next s ≡ linesAfter (drop (st .at) s)
-      → (q ≡ record { refused = false; log = logRun (m .writer) (logging (m .log) after) (callsIn (st .lent) (linesOf (drop next s))) .log }) × (k ≡ logRun (m .writer) (logging (m .log) after) (callsIn (st .lent) (linesOf (drop next s))) .bytes)
+      → (q ≡ record { refused = false; log = logRun (m .writer) (logging (m .log) after) (callsIn (st .lent) (linesOf (drop next s))) .log })
+      × (k ≡ logRun (m .writer) (logging (m .log) after) (callsIn (st .lent) (linesOf (drop next s))) .bytes)
       → Leaves slot s logged q k
   unfolding begunLog scriptLog callsOf
   loads-all next f d h =

@@ -96,9 +96,11 @@ module _ {w : HpsWriter} where
   pub makes-none : {j : WriteLog} {logged : List ℕ} (r : Reply) → Good w → Makes [] w (logging j logged) (record { writer = w; reply = r; log = j }) logged
   makes-none r g = record { good = g; is = λ later. refl }
 
-  pub cue-makes : (c : Cue) {q : Called} {j : WriteLog} {logged : List ℕ} → q ≡ called (cueOf w c) → Good (q .writer) → Makes (cue c ∷ []) w (logging j logged) (record { writer = q .writer; reply = q .reply; log = j }) logged
+  pub cue-makes : (c : Cue) {q : Called} {j : WriteLog} {logged : List ℕ} → q ≡ called (cueOf w c) → Good (q .writer)
+      → Makes (cue c ∷ []) w (logging j logged) (record { writer = q .writer; reply = q .reply; log = j }) logged
   unfolding logRun
-  cue-makes c {j = j} {logged = logged} e g = record { good = g; is = λ later. rw e (ap (λ (l : Logging). logRun (cueOf w c .writer) l later) (sym (cue-log w c (logging j logged)))) }
+  cue-makes c {j = j} {logged = logged} e g =
+      record { good = g; is = λ later. rw e (ap (λ (l : Logging). logRun (cueOf w c .writer) l later) (sym (cue-log w c (logging j logged)))) }
 
 -- ---- By kinds
 

@@ -1,5 +1,5 @@
 -- A script's lines one after the other.
-use Prim.Native.Nat.{ℕ, _+_, _<_, _≤_}
+use Prim.Native.Nat.{ℕ, _<_, _≤_}
 use mathlib.Core.Path.{_≡_, refl, ap, sym, _∙_}
 use mathlib.Core.Bool.{false}
 use mathlib.Core.List.{List}
@@ -51,7 +51,9 @@ module _ {s : List ℕ} {from : ℕ} {start : Loading} {logged : List ℕ} {at :
       sym e ∙ w .is
 
 -- What comes after begin.
-pub rest-is : (m : Made) (lent call : ℕ) (logged : List ℕ) (ls : List (List ℕ)) {j : WriteLog} {after : List ℕ} → logging j after ≡ allOf (record { writer = m .writer; log = m .log; lent = lent; call = call }) logged ls
-    → (_≡_ {A = Loaded} (record { refused = false; log = j }) (record { refused = false; log = logRun (m .writer) (logging (m .log) logged) (callsIn lent ls) .log })) × (after ≡ logRun (m .writer) (logging (m .log) logged) (callsIn lent ls) .bytes)
+pub rest-is : (m : Made) (lent call : ℕ) (logged : List ℕ) (ls : List (List ℕ)) {j : WriteLog} {after : List ℕ}
+    → logging j after ≡ allOf (record { writer = m .writer; log = m .log; lent = lent; call = call }) logged ls
+    → (_≡_ {A = Loaded} (record { refused = false; log = j }) (record { refused = false; log = logRun (m .writer) (logging (m .log) logged) (callsIn lent ls) .log }))
+    × (after ≡ logRun (m .writer) (logging (m .log) logged) (callsIn lent ls) .bytes)
 unfolding allOf
 rest-is m lent call logged ls e = (ap (λ (g : Logging). record { refused = false; log = g .log }) e, ap (λ (g : Logging). g .bytes) e)

@@ -1,7 +1,7 @@
 -- What is logged of a script: all its writes, where there is room.
 use Prim.Native.Nat.{ℕ, _≤_}
-use mathlib.Core.Path.{_≡_, refl, ap, sym, _∙_}
-use mathlib.Core.Bool.{Bool, true, false}
+use mathlib.Core.Path.{_≡_, sym, _∙_}
+use mathlib.Core.Bool.{false}
 use mathlib.Core.List.{List, [], _∷_, _++_, append-nil, append-assoc}
 use native.Mathlib.Omega.{arith}
 use lib.ListN.{length}
@@ -12,7 +12,7 @@ use Rattle.layout.proofs.PutLaws.{putAt-none}
 use Rattle.script_lines.specs.Lines.{beginLine}
 use Rattle.writer.specs.WritesAndCuttingRule.{handed}
 use Rattle.writer.specs.Loading.{Call, has, cueRefusal}
-use Rattle.writer.specs.Calls.{placesIn, held, afterCue, cueOf, Good, answerOf}
+use Rattle.writer.specs.Calls.{placesIn, held, afterCue, cueOf, Good}
 use Rattle.writer.specs.declared.Cue.{Cue}
 use Rattle.writer.specs.declared.HpsWriter.{HpsWriter}
 use Rattle.writer.proofs.GoodLaws.{begin-good, cue-kept, push-kept, finish-kept}
@@ -34,14 +34,19 @@ use Rattle.script_run.proofs.BeginLaws.{begin-accepted, small-slot}
 cue-tally : (w : HpsWriter) (c : Cue) (g : Logging) → Tally (g .log) w (g .bytes) → Tally (g .log) (cueOf w c .writer) (g .bytes)
 unfolding cueOf afterCue
 cue-tally w c g t =
-    let same : Tally (g .log) (afterCue w c) (g .bytes) = by-cases (has c (held w)) (λ e. rw e t) (λ e. rw e (record { listed = t .listed; room = t .room; small = t .small; many = t .many; bytes = t .bytes })) in
+    let same : Tally (g .log) (afterCue w c) (g .bytes) = by-cases (has c (held w)) (λ e. rw e t)
+    (λ e. rw e (record { listed = t .listed; room = t .room; small = t .small; many = t .many; bytes = t .bytes })) in
     by-cases (eqb (cueRefusal (w .stream .blocks) (held w) c) 0) (λ e. rw e same) (λ e. rw e t)
 
 step-tallied : (w : HpsWriter) (c : Call) (g : Logging) → Good w → Tally (g .log) w (g .bytes) → Tallied (step w c) g (logAfter (step w c) g)
 unfolding handed
 step-tallied w (Call.cue c) g h t =
     rw (cue-log w c g)
-    (record { tally = cue-tally w c g t; is = rw (cue-writes w c) (sym (append-nil (loggedWrites (g .log) (g .bytes)))); put = rw (cue-writes w c) (sym (putAt-none (g .bytes) (g .log .total))) })
+    (record {
+      tally = cue-tally w c g t;
+      is = rw (cue-writes w c) (sym (append-nil (loggedWrites (g .log) (g .bytes))));
+      put = rw (cue-writes w c) (sym (putAt-none (g .bytes) (g .log .total)));
+    })
 step-tallied w (Call.push p lent) g h t = push-tallied w p lent g h t
 step-tallied w (Call.finish lent) g h t = finish-tallied w lent g h t
 

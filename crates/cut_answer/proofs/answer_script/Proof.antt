@@ -43,8 +43,11 @@ slice-aggregate-show-2 c = search needs
 
 show-requires : tie.Need-show-requires
 show-requires c κs =
-    let made = c .before .before .before .before .before .before .before .before .before .before .load .ensures in
-    ((loaded-listed _ _ _ made, loaded-is _ _ _ made (c .before .before .before .before .before .before .before .before .before .before .before .before .before .before .before .before .pre) (omega (arith, c .before .before .before .before .before .before .before .before .before .before .before .before .before .log-room .ensures)) (c .before .before .before .before .before .before .before .before .if1 .left)), copy-first _ _ (search needs) (c .before .before .before .before .put-bytes .ensures))
+    let b = c .before .before .before .before .before .before .before .before in
+    let made = b .before .before .load .ensures in
+    let few = b .before .before .before .before .before .before .before .before .pre in
+    let writes = loaded-is _ _ _ made few (omega (arith, b .before .before .before .before .before .log-room .ensures)) (b .if1 .left) in
+    ((loaded-listed _ _ _ made, writes), copy-first _ _ (search needs) (c .before .before .before .before .put-bytes .ensures))
 
 returns-3 : tie.Need-returns-3
 returns-3 c = search needs

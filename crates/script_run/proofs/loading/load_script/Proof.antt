@@ -31,19 +31,28 @@ same-length : tie.Need-same-length
 same-length c = search needs
 
 returns : tie.Need-returns
-returns c = loads-nothing (c .before .before .before .before .before .before .before .before .before .before .before .before .before .before .before .args .slot) _ (c .before .before .before .before .before .before .before .before .before .before .before .before .start-of .ensures) (c .before .before .before .before .before .before .before .before .before .before .before .line-at .ensures) (c .before .before .before .before .before .before .before .before .before .before .begin-line .ensures) (c .before .before .before .before .before .before .before .before .before .begun-length .ensures) (c .before .before .before .before .before .before .before .begin-logged .ensures) (c .before .before .before .is-refused .ensures) (c .before .if1 .taken) (c .nothing .ensures)
+returns c =
+    let b = c .before .before .before .before .before .before .before in
+    loads-nothing (b .before .before .before .before .before .before .before .before .args .slot) _ (b .before .before .before .before .before .start-of .ensures) (b .before .before .before .before .line-at .ensures)
+    (b .before .before .before .begin-line .ensures) (b .before .before .begun-length .ensures) (b .begin-logged .ensures)
+    (c .before .before .before .is-refused .ensures) (c .before .if1 .taken) (c .nothing .ensures)
 
 next-line-requires : tie.Need-next-line-requires
 next-line-requires c κs = search needs
 
 load-rest-requires : tie.Need-load-rest-requires
-load-rest-requires c κs = (c .before .before .before .before .before .before .before .before .begin-logged .ensures .1 .1, c .before .before .before .before .before .before .before .before .before .before .before .before .before .before .before .before .pre)
+load-rest-requires c κs = let b = c .before .before .before .before .before .before .before .before in (b .begin-logged .ensures .1 .1, b .before .before .before .before .before .before .before .before .pre)
 
 same-length-2 : tie.Need-same-length-2
 same-length-2 c = search needs
 
 returns-2 : tie.Need-returns-2
-returns-2 c = loads-all (c .before .before .before .before .before .before .before .before .before .before .before .before .before .before .before .before .before .before .before .args .slot) _ (c .before .before .before .before .before .before .before .before .before .before .before .before .before .before .before .before .start-of .ensures) (c .before .before .before .before .before .before .before .before .before .before .before .before .before .before .before .line-at .ensures) (c .before .before .before .before .before .before .before .before .before .before .before .before .before .before .begin-line .ensures) (c .before .before .before .before .before .before .before .before .before .before .before .before .before .begun-length .ensures) (c .before .before .before .before .before .before .before .before .before .before .before .begin-logged .ensures) (c .before .before .before .before .before .before .before .is-refused .ensures) (c .before .before .before .before .next-line .result) (c .before .before .before .before .before .if1 .left) (c .before .before .before .before .next-line .ensures .0) (c .before .before .load-rest .ensures)
+returns-2 c =
+    let b = c .before .before .before .before .before .before .before .before .before .before .before in
+    loads-all (b .before .before .before .before .before .before .before .before .args .slot) _ (b .before .before .before .before .before .start-of .ensures) (b .before .before .before .before .line-at .ensures)
+    (b .before .before .before .begin-line .ensures) (b .before .before .begun-length .ensures) (b .begin-logged .ensures)
+    (c .before .before .before .before .before .before .before .is-refused .ensures) (c .before .before .before .before .next-line .result) (c .before .before .before .before .before .if1 .left)
+    (c .before .before .before .before .next-line .ensures .0) (c .before .before .load-rest .ensures)
 
 pub load-script-spec : {M : Type 1} → statement M
 load-script-spec =

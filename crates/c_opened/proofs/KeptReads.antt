@@ -1,4 +1,4 @@
--- The opening record read from lent bytes: words, offsets one after the other, and the record that the reads come to.
+-- The opening record read from lent bytes: loop start, offsets one after the other, and the record that the reads come to.
 use Prim.Native.Nat.{ℕ, zero, suc, _+_, _*_, _%_, _≤_, _<_}
 use mathlib.Core.Path.{_≡_, refl, sym, ap, _∙_}
 use mathlib.Core.Logic.{_⊎_, inl, inr, ⊎-elim}

@@ -1,4 +1,4 @@
-// A u64 in a lent record, big-endian as in the file.
+// A u64 put into a lent record, big-endian as in the file.
 use layout_put::put_u32;
 ghost use mathlib.Core.Path.{_≡_};
 ghost use Prim.Native.Nat.{_+_, _<_, _^_};

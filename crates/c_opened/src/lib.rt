@@ -1,6 +1,6 @@
 // The opening record in lent bytes, as a program in C or Rust keeps it.
 
-pub mod fields; // fields.rt: numbers in a lent record
+pub mod fields; // fields.rt: a u64 put into a lent record
 pub mod opened; // opened.rt: the opening record in bytes
 pub mod put; // put.rt: the opening record put into lent bytes
 

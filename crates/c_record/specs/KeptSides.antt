@@ -37,7 +37,7 @@ cueSize = 24
 abbrev pub loaderSize : ℕ
 loaderSize = cuesAt + cueSize * cueLimit
 
--- ---- Numbers
+-- ---- Coefficients
 
 -- n signed numbers from a place on.
 unfoldable pub signedFrom : List ℕ → (at n : ℕ) → List ℤ

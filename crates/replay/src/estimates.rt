@@ -1,7 +1,7 @@
 // The estimate, held to recorded answers.
-use crate::input::size;
 use layout_read::number_or_zero::long;
 use layout_read::number_or_zero::word;
+use replay_input::size;
 use writer_estimate::EstimateReply;
 use writer_estimate::estimate;
 

@@ -1,6 +1,4 @@
 // A stream loaded through begin, cue, push and finish, with calls among them that are refused, held to recorded answers and bytes.
-use crate::input::part;
-use crate::input::size;
 use crate::server::is_applied;
 use check::same;
 use layout::FrameContext;
@@ -11,6 +9,8 @@ use layout_read::number_or_zero::half;
 use layout_read::number_or_zero::long;
 use layout_read::number_or_zero::signed;
 use layout_read::number_or_zero::word;
+use replay_input::part;
+use replay_input::size;
 use writer::Called;
 use writer::ChannelBlock;
 use writer::Cue;
@@ -164,9 +164,10 @@ fn run_step(step: &[u8], w: HpsWriter, slot: &mut [u8], lent: &mut [u8]) -> Left
     ensures { λ q. ⌜ Good (q .writer) ⌝ }
 {
     let n = size(step, 8);
+    let bytes = part(step, 32, size(step, 12));
     match word(step, 0) {
         1 => {
-            put_bytes(slot, n, part(step, 32, size(step, 12)));
+            put_bytes(slot, n, bytes);
             Left {
                 writer: w,
                 good: true,
@@ -174,7 +175,7 @@ fn run_step(step: &[u8], w: HpsWriter, slot: &mut [u8], lent: &mut [u8]) -> Left
         }
         2..=5 => lend(step, w, slot, lent),
         6 => {
-            let good = has_bytes(slot, n, part(step, 32, size(step, 12)));
+            let good = has_bytes(slot, n, bytes);
             Left { writer: w, good }
         }
         _ => Left {

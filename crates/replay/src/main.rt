@@ -2,21 +2,21 @@
 // (1 slot, 2 loading, 3 estimate), a length (both u32, big-endian) and so many bytes; tests/oracle/cases.py makes them and says what lies where. Prints each
 // case in which something is other than recorded, with its place there, then the counts.
 use crate::estimates::estimate_case;
-use crate::input::input_room;
-use crate::input::part;
-use crate::input::size;
 use crate::loading::loading_case;
-use crate::report::report_case;
-use crate::report::report_counts;
 use crate::slot::slot_case;
+use io::print_decimal;
 use io::read_full;
+use io::write_all;
 use layout_read::number_or_zero::word;
 use libc::STDIN_FILENO;
+use libc::STDOUT_FILENO;
+use replay_input::input_room;
+use replay_input::part;
+use replay_input::report::report_case;
+use replay_input::size;
 
 mod estimates; // estimates.rt: the estimate
-mod input; // input.rt: parts of the input
 mod loading; // loading.rt: begin, cues, pushes and finish over a slot's earlier content
-mod report; // report.rt: what is printed of the cases
 mod server; // server.rt: the writes that a loading hands out, carried out
 mod slot; // slot.rt: the listing of a slot and every block read
 
@@ -30,6 +30,14 @@ fn other_in(kind: u32, body: &[u8]) -> usize {
         3 => estimate_case(body),
         _ => 1,
     }
+}
+
+// The last line.
+fn report_counts(cases: usize, others: usize) {
+    print_decimal(STDOUT_FILENO, cases as u64);
+    write_all(STDOUT_FILENO, b" cases, ");
+    print_decimal(STDOUT_FILENO, others as u64);
+    write_all(STDOUT_FILENO, b" other\n");
 }
 
 fn run(all: &[u8]) {

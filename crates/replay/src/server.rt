@@ -1,10 +1,10 @@
 // What a recorded call must answer, and the server's part after it: the writes that are handed out are carried out, and after each the slot is opened, up to
 // finish's last write with 2 or 3, then as a stream.
-use crate::input::part;
 use layout::fields::inside;
 use layout_put::put_bytes;
 use reader::answers::OpenReply;
 use reader_open::open;
+use replay_input::part;
 use writer::Place;
 use writer::Reply;
 
@@ -26,12 +26,20 @@ fn opens_as(s: &[u8], opens: bool) -> bool {
     }
 }
 
-// The server carries a write out, and opens the slot.
-fn apply_write(slot: &mut [u8], n: usize, place: Place, bytes: &[u8], opens: bool) -> bool {
+// The server carries a write out, of so many bytes from a place of the lent buffer on, and opens the slot.
+fn apply_write(
+    slot: &mut [u8],
+    n: usize,
+    place: Place,
+    lent: &[u8],
+    from: usize,
+    length: usize,
+    opens: bool,
+) -> bool {
     if !inside(n, place.offset, place.length) {
         return false;
     }
-    put_bytes(slot, place.offset, bytes);
+    put_bytes(slot, place.offset, part(lent, from, length));
     opens_as(part(slot, 0, n), opens)
 }
 
@@ -44,13 +52,13 @@ fn apply_header(
     mark: Place,
     lent: &[u8],
 ) -> bool {
-    if !apply_write(slot, n, start, part(lent, 0, 15), false) {
+    if !apply_write(slot, n, start, lent, 0, 15, false) {
         return false;
     }
-    if !apply_write(slot, n, rest, part(lent, 15, 112), false) {
+    if !apply_write(slot, n, rest, lent, 15, 112, false) {
         return false;
     }
-    apply_write(slot, n, mark, part(lent, 127, 1), true)
+    apply_write(slot, n, mark, lent, 127, 1, true)
 }
 
 // Whether a call answered with this number, or with 0 if it was accepted, finish with this length too; the writes of an accepted call are carried out.
@@ -69,7 +77,7 @@ pub(crate) fn is_applied(
             if due != 0 {
                 return false;
             }
-            apply_write(slot, n, place, part(lent, 0, place.length), false)
+            apply_write(slot, n, place, lent, 0, place.length, false)
         }
         Reply::ThreeWrites(finished, start, rest, mark) => {
             if due != 0 {

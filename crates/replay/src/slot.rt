@@ -1,6 +1,4 @@
 // A slot's listing, which makes every cue call, and its block reads and addresses remaining, held to recorded answers.
-use crate::input::part;
-use crate::input::size;
 use check::same;
 use io::large_buffer;
 use key_listing::listing::fill;
@@ -21,6 +19,8 @@ use reader_channel::read_at;
 use reader_channel::read_next;
 use reader_remaining::RemainingReply;
 use reader_remaining::data_remaining;
+use replay_input::part;
+use replay_input::size;
 ghost use Prim.Native.Nat.{_<_};
 ghost use mathlib.Core.Path.{_≡_};
 ghost use lib.ListN.{length};

@@ -7,7 +7,7 @@ use Rattle.replay.proofs.loading.lend.Reads as reads
 use Rattle.replay.proofs.loading.lend.Lts as lts
 use Rattle.layout.proofs.least.Reads as least-reads
 use Rattle.replay.proofs.loading.run_call.Reads as run-call-reads
-use Rattle.replay.proofs.input.size.Reads as size-reads
+use Rattle.replay_input.proofs.size.Reads as size-reads
 
 size-requires : tie.Need-size-requires
 size-requires c κs = search needs

@@ -12,7 +12,7 @@ use Rattle.check.proofs.same.Reads as same-reads
 use Rattle.io.proofs.large_buffer.Reads as large-buffer-reads
 use Rattle.key_listing.proofs.listing.fill.Reads as fill-reads
 use Rattle.key_listing.proofs.start.start_listing.Reads as start-listing-reads
-use Rattle.replay.proofs.input.part.Reads as part-reads
+use Rattle.replay_input.proofs.part.Reads as part-reads
 
 abbrev Inv-loop : tie.InvT-loop
 Inv-loop s want r stage₀ out₀ done₀ turns₀ stage out done turns = (length out ≡ 65536) × (turns ≤ 100) × (done ≤ 65536 * turns)

@@ -1,4 +1,4 @@
-// What is printed of the cases.
+// What is printed of a case.
 use io::print_decimal;
 use io::write_all;
 use libc::STDOUT_FILENO;
@@ -13,7 +13,7 @@ fn print_count(n: usize, word: &[u8]) {
 }
 
 // Prints a case in which something is other than recorded, with its place there; the place is 0 where nothing is. Gives how many such cases this is.
-pub(crate) fn report_case(case: usize, place: usize) -> usize
+pub fn report_case(case: usize, place: usize) -> usize
     ensures { λ n. ⌜ n ≡ pick (eqb place 0) 0 1 ⌝ }
     ensures { λ n. ⌜ n ≤ 1 ⌝ }
 {
@@ -24,10 +24,4 @@ pub(crate) fn report_case(case: usize, place: usize) -> usize
     print_count(case, b" at ");
     print_count(place, b"\n");
     1
-}
-
-// The last line.
-pub(crate) fn report_counts(cases: usize, others: usize) {
-    print_count(cases, b" cases, ");
-    print_count(others, b" other\n");
 }

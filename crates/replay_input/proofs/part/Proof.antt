@@ -4,14 +4,14 @@ use mathlib.Core.List.{List, []}
 use native.Mathlib.Omega.{arith}
 use lib.ListN.{length, take, drop}
 use borrow.Author.Tests.{le-leb, lt-leb}
-use Rattle.replay.specs.Parts.{partAt}
+use Rattle.replay_input.specs.Parts.{partAt}
 use denote.Ref.{now}
 use borrow.Author.Needs.{needs}
 use Rattle.layout.proofs.FieldLaws.{passed, failed}
-use Rattle.replay.proofs.input.part.Statement.{statement}
-use Rattle.replay.proofs.input.part.Tie as tie
-use Rattle.replay.proofs.input.part.Reads as reads
-use Rattle.replay.proofs.input.part.Lts as lts
+use Rattle.replay_input.proofs.part.Statement.{statement}
+use Rattle.replay_input.proofs.part.Tie as tie
+use Rattle.replay_input.proofs.part.Reads as reads
+use Rattle.replay_input.proofs.part.Lts as lts
 use Rattle.layout.proofs.fields.inside.Reads as inside-reads
 
 part-there : (s : List ℕ) (at n : ℕ) → at + n ≤ length s → take (at + n - at) (drop at s) ≡ partAt s at n

@@ -1,8 +1,8 @@
 use Prim.Native.Nat.{ℕ}
 use mathlib.Core.Path.{sym}
 use lib.ListN.{length-replicate}
-use Rattle.replay.proofs.input.input_room.Statement.{statement}
-use Rattle.replay.proofs.input.input_room.Tie as tie
+use Rattle.replay_input.proofs.input_room.Statement.{statement}
+use Rattle.replay_input.proofs.input_room.Tie as tie
 
 returns : tie.Need-returns
 returns c = sym (length-replicate {A = ℕ} 700000 0)

@@ -209,12 +209,12 @@ unfoldable pub sizeOf : List (List ℕ) → ℕ
 sizeOf ds = sum (λ d. P (length d)) ds
 
 -- The header of a block with this next offset, length, contexts, cues and data.
-unfoldable pub blockHeader : (next length : ℕ) (left right : FrameContext) → List CuePoint → List (List ℕ) → BlockHeader
+unfoldable pub blockHeader : (next dataLength : ℕ) (left right : FrameContext) → List CuePoint → List (List ℕ) → BlockHeader
 blockHeader next n l r ps ds =
     record { size = sizeOf ds; «end_address» = n - 1; «next_offset» = next; left = l; right = r; cues = length ps }
 
 -- A block: header, "Then come cues of 8 bytes .., filled up to a multiple of 4 cues .. Then each channel's data"
-unfoldable pub blockBytes : (next length : ℕ) (left right : FrameContext) → List CuePoint → List (List ℕ) → List ℕ
+unfoldable pub blockBytes : (next dataLength : ℕ) (left right : FrameContext) → List CuePoint → List (List ℕ) → List ℕ
 blockBytes next n l r ps ds =
     headerBytes (blockHeader next n l r ps ds) ++ (flatMap cueBytes ps ++ (flatMap cueBytes (fillers (length ps)) ++ flatMap padded ds))
 

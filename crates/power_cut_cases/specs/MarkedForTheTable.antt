@@ -166,7 +166,7 @@ abbrev pushed : Book → Push → ℕ → ℕ
 pushed b p lent = numberDue b (Call.push p (replicate lent 9))
 
 -- A stereo push of zeros: the right side's rate, length, data and coefficients.
-abbrev pair : (rate length : ℕ) → List ℕ → List ℤ → Push
+abbrev pair : (rate dataLength : ℕ) → List ℕ → List ℤ → Push
 pair rate n bs zs =
     record { channels = 2; left = side 16 eight; right = record { block = record { rate = rate; length = n; coefficients = zs; gain = 0; context = zeroContext }; bytes = bs }; last = false }
 

@@ -2,7 +2,7 @@
 use Prim.Native.Nat.{ℕ, zero, suc, _+_, _-_, _%_, _≤_, _<_}
 use mathlib.Core.Path.{_≡_, refl, sym, ap, _∙_}
 use mathlib.Core.Bool.{Bool, true, false, not}
-use mathlib.Core.List.{List, [], _∷_, _++_, append-assoc, append-nil}
+use mathlib.Core.List.{List, [], _∷_, _++_, append-assoc, append-nil, flatMap}
 use native.Mathlib.Omega.{arith}
 use lib.ListN.{length, length-append}
 use lib.Dec.{eqb}
@@ -12,7 +12,7 @@ use mir.Val.{SFits}
 use denote.Array.{each}
 use borrow.Author.Tests.{ne-eqb, le-leb}
 use Rattle.layout.specs.Choice.{_and_}
-use Rattle.layout.specs.Lists.{All, concat}
+use Rattle.layout.specs.Lists.{All}
 use Rattle.layout.specs.Puts.{putAt}
 use Rattle.layout.specs.Records.{be16, be32, beZ16, contextBytes}
 use Rattle.layout.proofs.Cases.{by-cases}
@@ -57,22 +57,22 @@ signed-back : {k : List ℕ} (off : ℕ) (z : ℤ) → SFits w16 z → At k off 
 unfolding signedAt
 signed-back {k} off z f a = rw (le-leb (off + 2) (length k) (omega (arith, at-inside a, beZ16-length z))) (i16-back f a)
 
-some-back : {k : List ℕ} (off n : ℕ) (zs : List ℤ) → length zs ≡ n → All (SFits w16) zs → At k off (concat beZ16 zs) → signedFrom k off n ≡ zs
-unfolding signedFrom concat
+some-back : {k : List ℕ} (off n : ℕ) (zs : List ℤ) → length zs ≡ n → All (SFits w16) zs → At k off (flatMap beZ16 zs) → signedFrom k off n ≡ zs
+unfolding signedFrom flatMap
 some-back off zero [] l f a = refl
 some-back off (suc n) [] l f a = absurd (omega arith)
 some-back off zero (z ∷ zs) l f a = absurd (omega arith)
 some-back {k} off (suc n) (z ∷ zs) l (All.more g f) a =
-    let x = signed-back off z g (at-left (beZ16 z) (concat beZ16 zs) a) in
-    let y = some-back {k = k} (off + 2) n zs (omega arith) f (at-move (off + 2) (ap (λ (m : ℕ). off + m) (beZ16-length z)) (at-right (beZ16 z) (concat beZ16 zs) a)) in
+    let x = signed-back off z g (at-left (beZ16 z) (flatMap beZ16 zs) a) in
+    let y = some-back {k = k} (off + 2) n zs (omega arith) f (at-move (off + 2) (ap (λ (m : ℕ). off + m) (beZ16-length z)) (at-right (beZ16 z) (flatMap beZ16 zs) a)) in
     rw (x, y)
 
 abbrev pub Long : ℕ → Type 0
 Long n = n < 18446744073709551616
 
-four-back : {k : List ℕ} (off a b c d : ℕ) → Long a → Long b → Long c → Long d → At k off (concat be64 (a ∷ b ∷ c ∷ d ∷ []))
+four-back : {k : List ℕ} (off a b c d : ℕ) → Long a → Long b → Long c → Long d → At k off (flatMap be64 (a ∷ b ∷ c ∷ d ∷ []))
     → (longAt k off ≡ a) × (longAt k (off + 8) ≡ b) × (longAt k (off + 16) ≡ c) × (longAt k (off + 24) ≡ d)
-unfolding concat
+unfolding flatMap
 four-back off a b c d fa fb fc fd x =
     let ps = pieces off (be64 a ∷ be64 b ∷ be64 c ∷ be64 d ∷ []) x in
     let la = be64-length a in
@@ -95,7 +95,7 @@ module _ {k : List ℕ} (off a b c d : ℕ) (fa : Long a) (fb : Long b) (fc : Lo
 
 marks-parts : {k : List ℕ} (off : ℕ) (l : LoopAt) (m : Looping) (id : ℕ) (last finished : Bool) → At k off (marksBytes l m id last finished)
     → Pieces k off (be64 (loopOffsetNumber l) ∷ be32 (modeNumber m) ∷ be32 id ∷ be32 (flagNumber last) ∷ be32 (flagNumber finished) ∷ [])
-unfolding marksBytes concat
+unfolding marksBytes flatMap
 marks-parts off l m id last finished a =
     pieces off (be64 (loopOffsetNumber l) ∷ be32 (modeNumber m) ∷ be32 id ∷ be32 (flagNumber last) ∷ be32 (flagNumber finished) ∷ []) a
 
@@ -161,7 +161,7 @@ numbers-back k s t g ch a l r =
 
 abbrev sideParts : ChannelBlock → List (List ℕ)
 sideParts b =
-    be32 (b .rate) ∷ be32 (b .length) ∷ concat beZ16 (b .coefficients) ∷ be16 (b .gain) ∷ be16 (b .context .«predictor_and_scale») ∷ beZ16 (b .context .last) ∷ beZ16 (b .context .oldest) ∷ []
+    be32 (b .rate) ∷ be32 (b .length) ∷ flatMap beZ16 (b .coefficients) ∷ be16 (b .gain) ∷ be16 (b .context .«predictor_and_scale») ∷ beZ16 (b .context .last) ∷ beZ16 (b .context .oldest) ∷ []
 
 side-parts : (b : ChannelBlock) → b .length < 4294967296 → sideBytes b ≡ joined (sideParts b)
 unfolding sideBytes contextBytes

@@ -3,7 +3,7 @@ use Prim.Native.Nat.{ℕ, zero, suc, _+_, _*_, _-_, _%_, _≤_, _<_}
 use mathlib.Core.Path.{_≡_, refl, sym, ap, _∙_}
 use mathlib.Core.Bool.{true, false}
 use mathlib.Core.Logic.{⊎-elim}
-use mathlib.Core.List.{List, [], _∷_, _++_}
+use mathlib.Core.List.{List, [], _∷_, _++_, flatMap}
 use native.Mathlib.Omega.{arith}
 use native.Mathlib.Nat.{le-of-suc-le-suc}
 use lib.ListN.{length, take, drop, getD, replicate, length-append, length-replicate, List·getD-append, List·getD-eq-default}
@@ -11,7 +11,7 @@ use lib.Seq.{getD-take, getD-append-add, take-append-seam, length-take-le, ext-g
 use lib.Dec.{ltb, leb, eqb}
 use borrow.Author.Tests.{le-leb, leb-true, leb-false, ltb-true, ltb-false, ne-eqb}
 use Rattle.layout.specs.Choice.{pick, _and_}
-use Rattle.layout.specs.Lists.{All, concat}
+use Rattle.layout.specs.Lists.{All}
 use Rattle.layout.specs.Puts.{putAt}
 use Rattle.layout.specs.Types.{Bytes}
 use Rattle.layout.specs.Records.{u16At, u32At, i16s, be16, be32, beZ16, contextAt, contextBytes, Read, field, formatOf, on, channelAt, channelBytes, readChannel, noChannel, headerAt, readHeader, fileHeaderSize, firstBlockOffset}
@@ -39,10 +39,10 @@ use Rattle.layout.proofs.ListLaws.{zeros-at}
 
 -- ---- Lengths
 
-pub offsets-length : (os : List ℕ) → length (concat be32 os) ≡ 4 * length os
-unfolding concat
+pub offsets-length : (os : List ℕ) → length (flatMap be32 os) ≡ 4 * length os
+unfolding flatMap
 offsets-length [] = refl
-offsets-length (o ∷ os) = length-append (be32 o) (concat be32 os) ∙ omega (arith, be32-length o, offsets-length os)
+offsets-length (o ∷ os) = length-append (be32 o) (flatMap be32 os) ∙ omega (arith, be32-length o, offsets-length os)
 
 pub file-length : (s : List ℕ) (count : ℕ) → fileHeaderSize ≤ length s → length (fileKept s count) ≡ fileHeaderSize
 unfolding fileKept
@@ -144,20 +144,20 @@ walk-is (suc n) s seen at os start b f h e =
 
 -- ---- Numbers one after the other
 
-offset-back : {k : List ℕ} (off : ℕ) (os : List ℕ) → All Small os → At k off (concat be32 os) → (j : ℕ) → j < length os → u32At k (off + 4 * j) ≡ getD os j 0
-unfolding concat
+offset-back : {k : List ℕ} (off : ℕ) (os : List ℕ) → All Small os → At k off (flatMap be32 os) → (j : ℕ) → j < length os → u32At k (off + 4 * j) ≡ getD os j 0
+unfolding flatMap
 offset-back off [] f a j h = absurd (omega arith)
-offset-back {k} off (o ∷ os) (All.more g f) a zero h = let e : off + 4 * zero ≡ off = omega arith in rw e (u32-back g (at-left (be32 o) (concat be32 os) a))
+offset-back {k} off (o ∷ os) (All.more g f) a zero h = let e : off + 4 * zero ≡ off = omega arith in rw e (u32-back g (at-left (be32 o) (flatMap be32 os) a))
 offset-back {k} off (o ∷ os) (All.more g f) a (suc j) h =
     let e : off + 4 * suc j ≡ off + 4 + 4 * j = omega arith in
-    rw e (offset-back (off + 4) os f (at-move (off + 4) (ap (λ (m : ℕ). off + m) (be32-length o)) (at-right (be32 o) (concat be32 os) a)) j (le-of-suc-le-suc h))
+    rw e (offset-back (off + 4) os f (at-move (off + 4) (ap (λ (m : ℕ). off + m) (be32-length o)) (at-right (be32 o) (flatMap be32 os) a)) j (le-of-suc-le-suc h))
 
 zeros-after : (os : List ℕ) (n j : ℕ) → length os ≤ j → _≡_ {A = ℕ} (getD (os ++ replicate n 0) j 0) 0
 zeros-after os n j h =
     let e : length os + (j - length os) ≡ j = omega arith in
     ap (λ (i : ℕ). getD (os ++ replicate n 0) i 0) (sym e) ∙ getD-append-add os (replicate n 0) (j - length os) 0 ∙ zeros-at n (j - length os)
 
-table-back : (k os : List ℕ) → All Small os → length os ≤ blockLimit → At k offsetsAt (concat be32 os) → os ++ replicate (blockLimit - length os) 0 ≡ offsetsIn k 0 (length os) blockLimit 0
+table-back : (k os : List ℕ) → All Small os → length os ≤ blockLimit → At k offsetsAt (flatMap be32 os) → os ++ replicate (blockLimit - length os) 0 ≡ offsetsIn k 0 (length os) blockLimit 0
 table-back k os f h a =
     let n : length (os ++ replicate (blockLimit - length os) 0) ≡ blockLimit = length-append os _ ∙ omega (arith, length-replicate {A = ℕ} (blockLimit - length os) 0) in
     ext-getD 0 (os ++ replicate (blockLimit - length os) 0) (offsetsIn k 0 (length os) blockLimit 0) (n ∙ sym (offsets-long k 0 (length os) blockLimit 0))
@@ -180,14 +180,14 @@ loop-back (LoopStart.Block i) h =
     apart i s z = omega arith
 
 none-bytes : channelBytes noChannel ≡ replicate 56 0
-unfolding channelBytes noChannel be16 be32 beZ16 contextBytes concat
+unfolding channelBytes noChannel be16 be32 beZ16 contextBytes flatMap
 none-bytes = refl
 
 -- ---- The record
 
 -- the file header that is kept, and the record's parts after it
 module _ (s kept : List ℕ) (count : ℕ) (os : List ℕ) (start : LoopStart) (h : fileHeaderSize ≤ length s) (bs : List ℕ)
-    (is : bs ≡ ((fileKept s count ++ be32 (length os)) ++ be32 (loopNumber start)) ++ (concat be32 os ++ replicate (4 * (blockLimit - length os)) 0)) (room : openedSize ≤ length kept) (few : length os ≤ blockLimit) where
+    (is : bs ≡ ((fileKept s count ++ be32 (length os)) ++ be32 (loopNumber start)) ++ (flatMap be32 os ++ replicate (4 * (blockLimit - length os)) 0)) (room : openedSize ≤ length kept) (few : length os ≤ blockLimit) where
   long : length bs ≡ openedSize
   long =
       ap length is ∙ simp (length-append, be32-length, length-replicate) (omega (arith, file-length s count h, offsets-length os))
@@ -197,11 +197,11 @@ module _ (s kept : List ℕ) (count : ℕ) (os : List ℕ) (start : LoopStart) (
       let l = long in
       record { before = []; rest = drop (0 + length bs) kept; long = refl; is = putAt-in kept 0 bs (omega arith) }
 
-  all : At (putAt kept 0 bs) 0 (((fileKept s count ++ be32 (length os)) ++ be32 (loopNumber start)) ++ (concat be32 os ++ replicate (4 * (blockLimit - length os)) 0))
+  all : At (putAt kept 0 bs) 0 (((fileKept s count ++ be32 (length os)) ++ be32 (loopNumber start)) ++ (flatMap be32 os ++ replicate (4 * (blockLimit - length os)) 0))
   all = at-same _ is there
 
   front : At (putAt kept 0 bs) 0 ((fileKept s count ++ be32 (length os)) ++ be32 (loopNumber start))
-  front = at-left ((fileKept s count ++ be32 (length os)) ++ be32 (loopNumber start)) (concat be32 os ++ replicate (4 * (blockLimit - length os)) 0) all
+  front = at-left ((fileKept s count ++ be32 (length os)) ++ be32 (loopNumber start)) (flatMap be32 os ++ replicate (4 * (blockLimit - length os)) 0) all
 
   head : At (putAt kept 0 bs) 0 (fileKept s count ++ be32 (length os))
   head = at-left (fileKept s count ++ be32 (length os)) (be32 (loopNumber start)) front
@@ -221,10 +221,10 @@ module _ (s kept : List ℕ) (count : ℕ) (os : List ℕ) (start : LoopStart) (
   pub loop-there : At (putAt kept 0 bs) 132 (be32 (loopNumber start))
   loop-there = at-move 132 (omega (arith, head-long)) (at-right (fileKept s count ++ be32 (length os)) (be32 (loopNumber start)) front)
 
-  pub table-there : At (putAt kept 0 bs) offsetsAt (concat be32 os)
+  pub table-there : At (putAt kept 0 bs) offsetsAt (flatMap be32 os)
   table-there =
-      at-left (concat be32 os) (replicate (4 * (blockLimit - length os)) 0)
-      (at-move offsetsAt (omega (arith, front-long)) (at-right ((fileKept s count ++ be32 (length os)) ++ be32 (loopNumber start)) (concat be32 os ++ replicate (4 * (blockLimit - length os)) 0) all))
+      at-left (flatMap be32 os) (replicate (4 * (blockLimit - length os)) 0)
+      (at-move offsetsAt (omega (arith, front-long)) (at-right ((fileKept s count ++ be32 (length os)) ++ be32 (loopNumber start)) (flatMap be32 os ++ replicate (4 * (blockLimit - length os)) 0) all))
 
 -- the first channel's bytes are the slot's, and the second's where it is in use
 module _ (s k : List ℕ) (count : ℕ) (h : fileHeaderSize ≤ length s) (a : At k 0 (fileKept s count)) where
@@ -295,7 +295,7 @@ opened-offsets s r e = let p = opened-parts s r e in rw (← (p .is)) (made-offs
 
 -- the bytes of a record by its parts
 bytes-are : (s : List ℕ) (rate count : ℕ) (l r : Channel) (os : List ℕ) (start : LoopStart)
-    → openedBytes s (made rate count l r os start) ≡ ((fileKept s count ++ be32 (length os)) ++ be32 (loopNumber start)) ++ (concat be32 os ++ replicate (4 * (blockLimit - length os)) 0)
+    → openedBytes s (made rate count l r os start) ≡ ((fileKept s count ++ be32 (length os)) ++ be32 (loopNumber start)) ++ (flatMap be32 os ++ replicate (4 * (blockLimit - length os)) 0)
 unfolding openedParts offsetsKept made
 bytes-are s rate count l r os start = rw (take-append-seam os (replicate (blockLimit - length os) 0))
 

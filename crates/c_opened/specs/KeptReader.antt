@@ -1,11 +1,10 @@
 -- The opening record in lent bytes: the bytes that are put for it, and the record that bytes stand for.
 use Prim.Native.Nat.{ℕ, zero, suc, _+_, _-_, _*_, _/_, _%_, _≤_}
 use mathlib.Core.Path.{_≡_}
-use mathlib.Core.List.{List, [], _∷_, _++_}
+use mathlib.Core.List.{List, [], _∷_, _++_, flatMap}
 use lib.ListN.{length, take, replicate}
 use lib.Dec.{ltb, leb, eqb}
 use Rattle.layout.specs.Choice.{pick, _and_}
-use Rattle.layout.specs.Lists.{concat}
 use Rattle.layout.specs.Puts.{putAt}
 use Rattle.layout.specs.Records.{u32At, be32, on, readChannel, fileHeaderSize}
 use Rattle.layout.specs.Refusals.{blockLimit}
@@ -51,7 +50,7 @@ fileKept s count = pick (eqb count 2) (take fileHeaderSize s) (take 72 s ++ repl
 
 -- "block offsets (zeros beyond)": the places of 512 offsets.
 unfoldable pub offsetsKept : (blocks : ℕ) (offsets : List ℕ) → List ℕ
-offsetsKept n os = concat be32 (take n os) ++ replicate (4 * (blockLimit - n)) 0
+offsetsKept n os = flatMap be32 (take n os) ++ replicate (4 * (blockLimit - n)) 0
 
 -- The record of a slot that was opened, by its parts: file header, count of blocks, loop start, the blocks' offsets.
 unfoldable pub openedParts : List ℕ → (count blocks : ℕ) → LoopStart → (offsets : List ℕ) → List ℕ

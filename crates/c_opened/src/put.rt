@@ -10,10 +10,10 @@ use layout_put::put_bytes;
 use layout_put::put_fill;
 use layout_put::put_u32;
 use reader::LoopStart;
+ghost use mathlib.Core.List.{flatMap};
 ghost use mathlib.Core.Path.{_≡_};
 ghost use Prim.Native.Nat.{_≤_};
 ghost use lib.ListN.{length, take};
-ghost use Rattle.layout.specs.Lists.{concat};
 ghost use Rattle.layout.specs.Records.{be32, fileHeaderSize};
 ghost use Rattle.layout.specs.Puts.{putAt};
 ghost use Rattle.c_opened.specs.KeptReader.{loopNumber, fileKept, openedParts, offsetsAt, openedSize};
@@ -33,7 +33,7 @@ fn loop_number(start: LoopStart) -> u32
 // The first n offsets.
 fn put_offsets(kept: &mut [u8], offsets: &[u32], n: usize)
     requires { ⌜ (n ≤ blockLimit) × (n ≤ length (now offsets)) × (openedSize ≤ length (now kept)) ⌝ }
-    ensures { λ _. ⌜ now (kept .exit) ≡ putAt (now (kept .entry)) offsetsAt (concat be32 (take n (now (offsets .entry)))) ⌝ }
+    ensures { λ _. ⌜ now (kept .exit) ≡ putAt (now (kept .entry)) offsetsAt (flatMap be32 (take n (now (offsets .entry)))) ⌝ }
 {
     let mut i: usize = 0;
     while i < n {

@@ -2,10 +2,9 @@
 use Prim.Native.Nat.{ℕ, _+_, _≤_}
 use mathlib.Core.Path.{_≡_, refl, ap, _∙_}
 use mathlib.Core.Bool.{Bool}
-use mathlib.Core.List.{List, [], _∷_, _++_, append-assoc, append-nil}
+use mathlib.Core.List.{List, [], _∷_, _++_, append-assoc, append-nil, flatMap}
 use native.Mathlib.Omega.{arith}
 use lib.ListN.{length, length-append}
-use Rattle.layout.specs.Lists.{concat}
 use Rattle.layout.specs.Puts.{putAt}
 use Rattle.layout.specs.Records.{be32}
 use Rattle.layout.proofs.Lengths.{be32-length}
@@ -29,8 +28,8 @@ long-then {l} {b} {xs} {at} {k} {n} p x e q h =
     let m : length b ≡ length l = ap length (p .is) ∙ putAt-length l at xs in
     put-then p (be64 x) (be64-length x) (e ∙ long-put b n x (omega arith)) q h
 
-four : (a b c d : ℕ) → be64 a ++ be64 b ++ be64 c ++ be64 d ≡ concat be64 (a ∷ b ∷ c ∷ d ∷ [])
-unfolding concat
+four : (a b c d : ℕ) → be64 a ++ be64 b ++ be64 c ++ be64 d ≡ flatMap be64 (a ∷ b ∷ c ∷ d ∷ [])
+unfolding flatMap
 four a b c d = simp (append-assoc, append-nil)
 
 module _ (k k₁ k₂ k₃ : List ℕ) {k₄ : List ℕ} (a b c d : ℕ) (room : leftAt ≤ length k) where
@@ -52,8 +51,8 @@ module _ (k k₁ k₂ k₃ : List ℕ) {k₄ : List ℕ} (a b c d : ℕ) (room :
 
 -- ---- The marks
 
-five : (a b c d e : ℕ) → be64 a ++ be32 b ++ be32 c ++ be32 d ++ be32 e ≡ be64 a ++ concat be32 (b ∷ c ∷ d ∷ e ∷ [])
-unfolding concat
+five : (a b c d e : ℕ) → be64 a ++ be32 b ++ be32 c ++ be32 d ++ be32 e ≡ be64 a ++ flatMap be32 (b ∷ c ∷ d ∷ e ∷ [])
+unfolding flatMap
 five a b c d e = simp (append-assoc, append-nil)
 
 pub marks-put : (k k₁ k₂ k₃ k₄ : List ℕ) {k₅ : List ℕ} (a b id d e : ℕ) (l : LoopAt) (m : Looping) (last finished : Bool) → leftAt ≤ length k
@@ -72,15 +71,15 @@ marks-put k k₁ k₂ k₃ k₄ a b id d e l m last finished room ea e₁ eb e�
 -- ---- The numbers
 
 pub places-length : (a b c d : ℕ) → length (placesBytes a b c d) ≡ 32
-unfolding placesBytes concat be64 be32
+unfolding placesBytes flatMap be64 be32
 places-length a b c d = refl
 
 pub sums-length : (a b c d : ℕ) → length (sumsBytes a b c d) ≡ 32
-unfolding sumsBytes concat be64 be32
+unfolding sumsBytes flatMap be64 be32
 sums-length a b c d = refl
 
 pub marks-length : (l : LoopAt) (m : Looping) (id : ℕ) (last finished : Bool) → length (marksBytes l m id last finished) ≡ 24
-unfolding marksBytes concat be64 be32
+unfolding marksBytes flatMap be64 be32
 marks-length l m id last finished = refl
 
 pub numbers-length : (s : Fields) → length (numberBytes s) ≡ leftAt

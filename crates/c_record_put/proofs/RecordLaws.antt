@@ -1,10 +1,9 @@
 -- The record's sides, and the record after a push, put piece after piece.
 use Prim.Native.Nat.{ℕ, _+_, _*_, _%_, _≤_}
 use mathlib.Core.Path.{_≡_, refl, ap, _∙_}
-use mathlib.Core.List.{List, _++_}
+use mathlib.Core.List.{List, _++_, flatMap}
 use native.Mathlib.Omega.{arith}
 use lib.ListN.{length, length-append}
-use Rattle.layout.specs.Lists.{concat}
 use Rattle.layout.specs.Puts.{putAt}
 use Rattle.layout.specs.Records.{be16, be32, beZ16, contextBytes}
 use Rattle.layout.proofs.Lengths.{be16-length, be32-length, context-length, coefficients-length}
@@ -26,14 +25,14 @@ side-length b h =
     (omega (arith, h, coefficients-length (b .coefficients)))
 
 pub side-put : (k k₁ k₂ k₃ k₄ : List ℕ) {k₅ : List ℕ} (at : ℕ) (b : ChannelBlock) → at + sideSize ≤ length k → length (b .coefficients) ≡ 16 → k₁ ≡ putAt k at (be32 (b .rate))
-    → k₂ ≡ putAt k₁ (at + 4) (be32 (b .length % 4294967296)) → k₃ ≡ putAt k₂ (at + 8) (concat beZ16 (b .coefficients))
+    → k₂ ≡ putAt k₁ (at + 4) (be32 (b .length % 4294967296)) → k₃ ≡ putAt k₂ (at + 8) (flatMap beZ16 (b .coefficients))
     → k₄ ≡ putAt k₃ (at + 40) (be16 (b .gain)) → k₅ ≡ putAt k₄ (at + 42) (contextBytes (b .context)) → k₅ ≡ putAt k at (sideBytes b)
 unfolding sideBytes
 side-put k k₁ k₂ k₃ k₄ at b room h e₁ e₂ e₃ e₄ e₅ =
-    let n : length (concat beZ16 (b .coefficients)) ≡ 32 = coefficients-length (b .coefficients) ∙ ap (λ (x : ℕ). 2 * x) h in
+    let n : length (flatMap beZ16 (b .coefficients)) ≡ 32 = coefficients-length (b .coefficients) ∙ ap (λ (x : ℕ). 2 * x) h in
     let p : Put k at 4 (be32 (b .rate)) _ = record { size = be32-length _; is = e₁ } in
     let q = put-then p (be32 (b .length % 4294967296)) (be32-length _) e₂ refl (omega arith) in
-    let r = put-then q (concat beZ16 (b .coefficients)) n e₃ refl (omega arith) in
+    let r = put-then q (flatMap beZ16 (b .coefficients)) n e₃ refl (omega arith) in
     let t = put-then r (be16 (b .gain)) (be16-length _) e₄ refl (omega arith) in
     put-then t (contextBytes (b .context)) (context-length _) e₅ refl (omega arith) .is
 

@@ -1,12 +1,12 @@
 -- The table of cues put into lent bytes, and read from them again.
 use Prim.Native.Nat.{ℕ, zero, suc, _+_, _-_, _*_, _<_, _≤_}
 use mathlib.Core.Path.{_≡_, refl, ap, sym, _∙_}
-use mathlib.Core.List.{List, [], _∷_, _++_, append-assoc, append-nil}
+use mathlib.Core.List.{List, [], _∷_, _++_, append-assoc, append-nil, flatMap}
 use native.Mathlib.Omega.{arith}
 use native.Mathlib.Numerals.{add-one}
 use lib.ListN.{length, getD, take, replicate, length-append}
 use lib.Seq.{take-suc, length-take-le}
-use Rattle.layout.specs.Lists.{All, concat}
+use Rattle.layout.specs.Lists.{All}
 use Rattle.layout.specs.Puts.{putAt}
 use Rattle.layout.specs.Records.{be32}
 use Rattle.layout.proofs.Lengths.{be32-length}
@@ -46,19 +46,19 @@ entry-put l at c {a} {b} {d} {e} {r} {k} h er ek ea eb ed ee =
 
 -- ---- Cues one after the other
 
-pub concat-length : (cs : List Cue) → length (concat entryBytes cs) ≡ 24 * length cs
-unfolding concat
-concat-length [] = refl
-concat-length (c ∷ cs) = length-append (entryBytes c) (concat entryBytes cs) ∙ omega (arith, entry-length c, concat-length cs)
+pub flatMap-length : (cs : List Cue) → length (flatMap entryBytes cs) ≡ 24 * length cs
+unfolding flatMap
+flatMap-length [] = refl
+flatMap-length (c ∷ cs) = length-append (entryBytes c) (flatMap entryBytes cs) ∙ omega (arith, entry-length c, flatMap-length cs)
 
-concat-snoc : (cs : List Cue) (c : Cue) → concat entryBytes (cs ++ (c ∷ [])) ≡ concat entryBytes cs ++ entryBytes c
-unfolding concat
-concat-snoc [] c = append-nil (entryBytes c)
-concat-snoc (d ∷ ds) c = ap (λ (l : List ℕ). entryBytes d ++ l) (concat-snoc ds c) ∙ sym (append-assoc (entryBytes d) (concat entryBytes ds) (entryBytes c))
+flatMap-snoc : (cs : List Cue) (c : Cue) → flatMap entryBytes (cs ++ (c ∷ [])) ≡ flatMap entryBytes cs ++ entryBytes c
+unfolding flatMap
+flatMap-snoc [] c = append-nil (entryBytes c)
+flatMap-snoc (d ∷ ds) c = ap (λ (l : List ℕ). entryBytes d ++ l) (flatMap-snoc ds c) ∙ sym (append-assoc (entryBytes d) (flatMap entryBytes ds) (entryBytes c))
 
 pub entries-length : (t : List Cue) (n : ℕ) → n ≤ length t → length (entriesBytes t n) ≡ 24 * n
 unfolding entriesBytes
-entries-length t n h = concat-length (take n t) ∙ ap (λ (m : ℕ). 24 * m) (length-take-le n t h)
+entries-length t n h = flatMap-length (take n t) ∙ ap (λ (m : ℕ). 24 * m) (length-take-le n t h)
 
 all-snoc : (cs : List Cue) (c : Cue) → All EntryFits cs → EntryFits c → All EntryFits (cs ++ (c ∷ []))
 all-snoc [] c f h = All.more h All.none
@@ -72,18 +72,18 @@ pub record Entries (l : List ℕ) (at : ℕ) (t : List Cue) (n : ℕ) (b : List 
   pub fit : All EntryFits (take i t)
 
 pub entries-none : (l : List ℕ) (at : ℕ) (t : List Cue) (n : ℕ) → Entries l at t n l 0
-unfolding entriesBytes concat
+unfolding entriesBytes flatMap
 entries-none l at t n = record { few = omega arith; long = refl; is = sym (putAt-none l at); fit = All.none }
 
 pub entries-more : (l : List ℕ) (at : ℕ) (t : List Cue) (n : ℕ) (b : List ℕ) (i : ℕ) (b′ : List ℕ) (z : Cue) → length t ≡ cueLimit → n ≤ cueLimit → at + 24 * n ≤ length l
     → Entries l at t n b i → i < n → b′ ≡ putAt b (at + 24 * i) (entryBytes (getD t i z)) → EntryFits (getD t i z) → Entries l at t n b′ (i + 1)
 unfolding entriesBytes
 entries-more l at t n b i b′ z len most room inv lt e f =
-    let s : length (concat entryBytes (take i t)) ≡ 24 * i = entries-length t i (omega arith) in
-    let q : concat entryBytes (take (i + 1) t) ≡ concat entryBytes (take i t) ++ entryBytes (getD t i z) =
-    ap (λ (m : ℕ). concat entryBytes (take m t)) (add-one i) ∙ ap (concat entryBytes) (take-suc t i z (omega arith)) ∙ concat-snoc (take i t) (getD t i z) in
+    let s : length (flatMap entryBytes (take i t)) ≡ 24 * i = entries-length t i (omega arith) in
+    let q : flatMap entryBytes (take (i + 1) t) ≡ flatMap entryBytes (take i t) ++ entryBytes (getD t i z) =
+    ap (λ (m : ℕ). flatMap entryBytes (take m t)) (add-one i) ∙ ap (flatMap entryBytes) (take-suc t i z (omega arith)) ∙ flatMap-snoc (take i t) (getD t i z) in
     let u : take i t ++ (getD t i z ∷ []) ≡ take (i + 1) t = sym (ap (λ (m : ℕ). take m t) (add-one i) ∙ take-suc t i z (omega arith)) in
-    let p : Put l at (24 * i) (concat entryBytes (take i t)) b = record { size = s; is = inv .is } in
+    let p : Put l at (24 * i) (flatMap entryBytes (take i t)) b = record { size = s; is = inv .is } in
     record {
       few = omega arith;
       long = ap length e ∙ putAt-length b _ _ ∙ inv .long;
@@ -136,14 +136,14 @@ entry-back {s} off c f a =
     let e4 : wordAt s (off + 20) ≡ c .name = word-back (off + 20) (f .name) (at-move (off + 20) (ap (λ (m : ℕ). off + m) lxyk) (at-right ((x ++ y) ++ k) n a)) in
     rw (e1, e2, e3, e4, kind-back (c .kind))
 
-cues-back : {s : List ℕ} (off n : ℕ) (cs : List Cue) → length cs ≡ n → All EntryFits cs → At s off (concat entryBytes cs) → cuesKept s off n ≡ cs
-unfolding cuesKept concat
+cues-back : {s : List ℕ} (off n : ℕ) (cs : List Cue) → length cs ≡ n → All EntryFits cs → At s off (flatMap entryBytes cs) → cuesKept s off n ≡ cs
+unfolding cuesKept flatMap
 cues-back off zero [] l f a = refl
 cues-back off (suc n) [] l f a = absurd (omega arith)
 cues-back off zero (c ∷ cs) l f a = absurd (omega arith)
 cues-back {s} off (suc n) (c ∷ cs) l (All.more g f) a =
-    let x = entry-back off c g (at-left (entryBytes c) (concat entryBytes cs) a) in
-    let y = cues-back {s = s} (off + 24) n cs (omega arith) f (at-move (off + 24) (ap (λ (m : ℕ). off + m) (entry-length c)) (at-right (entryBytes c) (concat entryBytes cs) a)) in
+    let x = entry-back off c g (at-left (entryBytes c) (flatMap entryBytes cs) a) in
+    let y = cues-back {s = s} (off + 24) n cs (omega arith) f (at-move (off + 24) (ap (λ (m : ℕ). off + m) (entry-length c)) (at-right (entryBytes c) (flatMap entryBytes cs) a)) in
     rw (x, y)
 
 module _ (kept : List ℕ) (t : List Cue) (n : ℕ) (len : length t ≡ cueLimit) (few : n ≤ cueLimit) (room : loaderSize ≤ length kept) where
@@ -175,6 +175,6 @@ module _ (kept : List ℕ) (t : List Cue) (n : ℕ) (len : length t ≡ cueLimit
   table-back f =
       let a : List ℕ = putAt kept 16 (be64 n) in
       let la : length a ≡ length kept = putAt-length kept 16 (be64 n) in
-      let lb : length (concat entryBytes (take n t)) ≡ 24 * n = entries-length t n (omega arith) in
-      let p : At (putAt a cuesAt (concat entryBytes (take n t))) cuesAt (concat entryBytes (take n t)) = put-there a cuesAt (concat entryBytes (take n t)) (omega arith) in
+      let lb : length (flatMap entryBytes (take n t)) ≡ 24 * n = entries-length t n (omega arith) in
+      let p : At (putAt a cuesAt (flatMap entryBytes (take n t))) cuesAt (flatMap entryBytes (take n t)) = put-there a cuesAt (flatMap entryBytes (take n t)) (omega arith) in
       ap (λ (l : List Cue). l ++ replicate (cueLimit - n) noCue) (cues-back cuesAt n (take n t) (length-take-le n t (omega arith)) f p)

@@ -1,9 +1,8 @@
 -- The bytes of the writer's record in lent bytes: its numbers.
 use Prim.Native.Nat.{ℕ}
 use mathlib.Core.Bool.{Bool}
-use mathlib.Core.List.{List, [], _∷_, _++_}
+use mathlib.Core.List.{List, [], _∷_, _++_, flatMap}
 use Rattle.layout.specs.Choice.{pick}
-use Rattle.layout.specs.Lists.{concat}
 use Rattle.layout.specs.Records.{be32}
 use Rattle.writer.specs.declared.Looping.{Looping}
 use Rattle.writer.specs.declared.Looping.the-variants.{Disabled, Enabled, Auto}
@@ -33,15 +32,15 @@ flagNumber b = pick b 1 0
 
 -- The places in slot and table, 32 bytes.
 unfoldable pub placesBytes : (slot channels count next : ℕ) → List ℕ
-placesBytes slot channels count next = concat be64 (slot ∷ channels ∷ count ∷ next ∷ [])
+placesBytes slot channels count next = flatMap be64 (slot ∷ channels ∷ count ∷ next ∷ [])
 
 -- The sums over the blocks, 32 bytes.
 unfoldable pub sumsBytes : (base offset blocks sum : ℕ) → List ℕ
-sumsBytes base offset blocks sum = concat be64 (base ∷ offset ∷ blocks ∷ sum ∷ [])
+sumsBytes base offset blocks sum = flatMap be64 (base ∷ offset ∷ blocks ∷ sum ∷ [])
 
 -- The loop block and the marks, 24 bytes.
 unfoldable pub marksBytes : LoopAt → Looping → (id : ℕ) (last finished : Bool) → List ℕ
-marksBytes loopat mode id last finished = be64 (loopOffsetNumber loopat) ++ concat be32 (modeNumber mode ∷ id ∷ flagNumber last ∷ flagNumber finished ∷ [])
+marksBytes loopat mode id last finished = be64 (loopOffsetNumber loopat) ++ flatMap be32 (modeNumber mode ∷ id ∷ flagNumber last ∷ flagNumber finished ∷ [])
 
 -- The numbers of the record.
 unfoldable pub numberBytes : Fields → List ℕ

@@ -1,8 +1,7 @@
 -- The writer's table of cues in lent bytes: the bytes that are put for it, and the table that is read from them again.
 use Prim.Native.Nat.{ℕ, _-_, _<_}
-use mathlib.Core.List.{List, _++_}
+use mathlib.Core.List.{List, _++_, flatMap}
 use lib.ListN.{take, replicate}
-use Rattle.layout.specs.Lists.{concat}
 use Rattle.layout.specs.Puts.{putAt}
 use Rattle.layout.specs.Records.{be32}
 use Rattle.layout.specs.Refusals.{cueLimit}
@@ -24,7 +23,7 @@ pub record EntryFits (c : Cue) : Type 0 where
 
 -- The first n cues, one after the other.
 unfoldable pub entriesBytes : List Cue → (n : ℕ) → List ℕ
-entriesBytes cues n = concat entryBytes (take n cues)
+entriesBytes cues n = flatMap entryBytes (take n cues)
 
 -- The bytes with the table of n cues: how many they are at byte 16, the cues from byte 184 on.
 unfoldable pub tablePut : List ℕ → List Cue → (n : ℕ) → List ℕ

@@ -21,7 +21,7 @@ abbrev pub logSize : ℕ
 logSize = keyLimit + fileHeaderSize
 
 -- The lent buffer of a call.
-abbrev pub lentOf : (length : ℕ) → List ℕ
+abbrev pub lentOf : (lent : ℕ) → List ℕ
 lentOf n = replicate (min n longLent) 0
 
 -- The log after a call: its writes are logged after the others, with their bytes from the lent buffer; a refused call's are none.

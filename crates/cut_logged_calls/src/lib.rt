@@ -58,15 +58,15 @@ pub fn begin_logged(
     slot: usize,
     channels: usize,
     mode: Looping,
-    length: usize,
+    room: usize,
     logged: &mut [u8],
 ) -> Made
-    ensures { λ q. ⌜ q ≡ madeBy (beginOf slot channels mode (lentOf length)) (logging emptyLog (now (logged .entry))) ⌝ }
-    ensures { λ q. ⌜ now (logged .exit) ≡ logAfter (beginOf slot channels mode (lentOf length)) (logging emptyLog (now (logged .entry))) .bytes ⌝ }
+    ensures { λ q. ⌜ q ≡ madeBy (beginOf slot channels mode (lentOf room)) (logging emptyLog (now (logged .entry))) ⌝ }
+    ensures { λ q. ⌜ now (logged .exit) ≡ logAfter (beginOf slot channels mode (lentOf room)) (logging emptyLog (now (logged .entry))) .bytes ⌝ }
     ensures { λ q. ⌜ Good (q .writer) ⌝ }
 {
     let mut lent = zeros();
-    let n = least(length, LENT);
+    let n = least(room, LENT);
     begin_with(slot, channels, mode, &mut lent[..n], logged)
 }
 
@@ -103,17 +103,17 @@ pub fn push_logged(
     left_data: &[u8],
     right_data: &[u8],
     last: bool,
-    length: usize,
+    room: usize,
     j: WriteLog,
     logged: &mut [u8],
 ) -> Made
     requires { ⌜ Good w ⌝ }
-    ensures { λ q. ⌜ q ≡ madeBy (pushOf w (pushArgs channels left right (now («left_data» .entry)) (now («right_data» .entry)) last) (lentOf length)) (logging j (now (logged .entry))) ⌝ }
-    ensures { λ q. ⌜ now (logged .exit) ≡ logAfter (pushOf w (pushArgs channels left right (now («left_data» .entry)) (now («right_data» .entry)) last) (lentOf length)) (logging j (now (logged .entry))) .bytes ⌝ }
+    ensures { λ q. ⌜ q ≡ madeBy (pushOf w (pushArgs channels left right (now («left_data» .entry)) (now («right_data» .entry)) last) (lentOf room)) (logging j (now (logged .entry))) ⌝ }
+    ensures { λ q. ⌜ now (logged .exit) ≡ logAfter (pushOf w (pushArgs channels left right (now («left_data» .entry)) (now («right_data» .entry)) last) (lentOf room)) (logging j (now (logged .entry))) .bytes ⌝ }
     ensures { λ q. ⌜ Good (q .writer) ⌝ }
 {
     let mut lent = zeros();
-    let n = least(length, LENT);
+    let n = least(room, LENT);
     push_with(
         w,
         channels,
@@ -142,13 +142,13 @@ fn finish_with(w: HpsWriter, lent: &mut [u8], j: WriteLog, logged: &mut [u8]) ->
 }
 
 // Finish, with a lent buffer of so many bytes, 65,536 at most.
-pub fn finish_logged(w: HpsWriter, length: usize, j: WriteLog, logged: &mut [u8]) -> Made
+pub fn finish_logged(w: HpsWriter, room: usize, j: WriteLog, logged: &mut [u8]) -> Made
     requires { ⌜ Good w ⌝ }
-    ensures { λ q. ⌜ q ≡ madeBy (finishOf w (lentOf length)) (logging j (now (logged .entry))) ⌝ }
-    ensures { λ q. ⌜ now (logged .exit) ≡ logAfter (finishOf w (lentOf length)) (logging j (now (logged .entry))) .bytes ⌝ }
+    ensures { λ q. ⌜ q ≡ madeBy (finishOf w (lentOf room)) (logging j (now (logged .entry))) ⌝ }
+    ensures { λ q. ⌜ now (logged .exit) ≡ logAfter (finishOf w (lentOf room)) (logging j (now (logged .entry))) .bytes ⌝ }
     ensures { λ q. ⌜ Good (q .writer) ⌝ }
 {
     let mut lent = zeros();
-    let n = least(length, LENT);
+    let n = least(room, LENT);
     finish_with(w, &mut lent[..n], j, logged)
 }

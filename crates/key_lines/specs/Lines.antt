@@ -49,7 +49,7 @@ abbrev pub headLine : HpsReader → List ℕ
 headLine r = line (72 ∷ 69 ∷ 65 ∷ 68 ∷ []) (Number (r .rate) ∷ Number (r .count) ∷ Number (r .blocks) ∷ loopColumn (r .«loop_start») ∷ [])
 
 -- "BLCK index, offset, length, samples, cues": samples in channel 0's format, cues the header's count
-abbrev pub blockLine : DspFormat → (index offset length cues : ℕ) → List ℕ
+abbrev pub blockLine : DspFormat → (index offset dataLength cues : ℕ) → List ℕ
 blockLine f i o n cues = line (66 ∷ 76 ∷ 67 ∷ 75 ∷ []) (Number i ∷ Number o ∷ Number n ∷ Number (numSamples f n) ∷ Number cues ∷ [])
 
 -- "LOOP start": "a cue start 21"

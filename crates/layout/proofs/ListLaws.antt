@@ -1,11 +1,11 @@
 -- Lists: laws that the libraries lack. What holds of every element, bytes one after the other, the same element n times.
 use Prim.Native.Nat.{ℕ, zero, suc, _+_, _*_, _<_}
 use mathlib.Core.Path.{_≡_, refl, sym, ap, _∙_}
-use mathlib.Core.List.{List, [], _∷_, _++_, append-assoc, append-nil}
+use mathlib.Core.List.{List, [], _∷_, _++_, append-assoc, append-nil, flatMap}
 use native.Mathlib.Omega.{arith}
 use native.Mathlib.Nat.{le-of-suc-le-suc, not-suc-le-zero}
 use lib.ListN.{length, drop, getD, replicate, length-append}
-use Rattle.layout.specs.Lists.{All, none, more, concat}
+use Rattle.layout.specs.Lists.{All, none, more}
 
 -- ---- Every element
 
@@ -39,16 +39,16 @@ module _ {A : Type 0} {Q : A → Type 0} where
 -- ---- Bytes one after the other
 
 module _ {A : Type 0} (f : A → List ℕ) where
-  pub concat-snoc : (xs : List A) (x : A) → concat f (xs ++ (x ∷ [])) ≡ concat f xs ++ f x
-  unfolding concat
-  concat-snoc [] x = append-nil (f x)
-  concat-snoc (y ∷ ys) x = ap (λ (l : List ℕ). f y ++ l) (concat-snoc ys x) ∙ sym (append-assoc (f y) (concat f ys) (f x))
+  pub flatMap-snoc : (xs : List A) (x : A) → flatMap f (xs ++ (x ∷ [])) ≡ flatMap f xs ++ f x
+  unfolding flatMap
+  flatMap-snoc [] x = append-nil (f x)
+  flatMap-snoc (y ∷ ys) x = ap (λ (l : List ℕ). f y ++ l) (flatMap-snoc ys x) ∙ sym (append-assoc (f y) (flatMap f ys) (f x))
 
   -- of elements of n bytes each
-  pub concat-length : (n : ℕ) → ((x : A) → length (f x) ≡ n) → (xs : List A) → length (concat f xs) ≡ n * length xs
-  unfolding concat
-  concat-length n h [] = omega arith
-  concat-length n h (x ∷ xs) = length-append (f x) (concat f xs) ∙ omega (arith, h x, concat-length n h xs)
+  pub flatMap-length : (n : ℕ) → ((x : A) → length (f x) ≡ n) → (xs : List A) → length (flatMap f xs) ≡ n * length xs
+  unfolding flatMap
+  flatMap-length n h [] = omega arith
+  flatMap-length n h (x ∷ xs) = length-append (f x) (flatMap f xs) ∙ omega (arith, h x, flatMap-length n h xs)
 
 -- ---- Zeros
 

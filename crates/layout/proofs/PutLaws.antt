@@ -1,7 +1,7 @@
 -- Bytes put into a buffer: lengths, what is put right after, and the loops that put byte after byte.
 use Prim.Native.Nat.{ℕ, suc, _+_, _*_, _<_, _≤_}
 use mathlib.Core.Path.{_≡_, refl, ap, sym, _∙_}
-use mathlib.Core.List.{List, [], _∷_, _++_, append-assoc, append-nil}
+use mathlib.Core.List.{List, [], _∷_, _++_, append-assoc, append-nil, flatMap}
 use native.Mathlib.Omega.{arith}
 use native.Mathlib.Nat.{add-zero, mul-le-mul-left}
 use native.Mathlib.Numerals.{add-one}
@@ -9,10 +9,10 @@ use lib.ListN.{length, getD, take, drop, set, length-take, length-drop, length-a
 use lib.Seq.{drop-cons, length-take-le, set-at, set-split, take-suc, take-at, drop-drop, take-all, drop-append-add}
 use lib.Dec.{leb}
 use borrow.Author.Tests.{le-leb, lt-leb, leb-true}
-use Rattle.layout.specs.Lists.{put, concat}
+use Rattle.layout.specs.Lists.{put}
 use Rattle.layout.specs.Puts.{putAt}
 use Rattle.layout.proofs.Cases.{by-cases}
-use Rattle.layout.proofs.ListLaws.{concat-length, concat-snoc}
+use Rattle.layout.proofs.ListLaws.{flatMap-length, flatMap-snoc}
 
 -- ---- Bytes that fit
 
@@ -139,34 +139,34 @@ pub record PuttingEach {A : Type 0} (f : A → List ℕ) (w : ℕ) (l : List ℕ
   pub many : n ≤ length xs
   pub inside : at + w * n ≤ length l
   pub few : i ≤ n
-  pub is : b ≡ putAt l at (concat f (take i xs))
+  pub is : b ≡ putAt l at (flatMap f (take i xs))
 
 module _ {A : Type 0} {f : A → List ℕ} {w : ℕ} {l : List ℕ} {at : ℕ} {xs : List A} {n : ℕ} where
   pub each-none : n ≤ length xs → at + w * n ≤ length l → PuttingEach f w l at xs n l 0
-  unfolding concat
+  unfolding flatMap
   each-none h g = record { many = h; inside = g; few = omega arith; is = sym (putAt-none l at) }
 
   module _ {b : List ℕ} {i : ℕ} (p : PuttingEach f w l at xs n b i) where
     pub each-long : length b ≡ length l
-    each-long = ap length (p .is) ∙ putAt-length l at (concat f (take i xs))
+    each-long = ap length (p .is) ∙ putAt-length l at (flatMap f (take i xs))
 
     pub each-more : {c : List ℕ} (d : A) → ((x : A) → length (f x) ≡ w) → i < n → c ≡ putAt b (at + w * i) (f (getD xs i d)) → PuttingEach f w l at xs n c (i + 1)
     each-more d each h e =
         let k = p .many in
         let lt : i < length xs = omega arith in
-        let size : length (concat f (take i xs)) ≡ w * i = concat-length f w each (take i xs) ∙ ap (λ (m : ℕ). w * m) (length-take-le i xs (omega arith)) in
+        let size : length (flatMap f (take i xs)) ≡ w * i = flatMap-length f w each (take i xs) ∙ ap (λ (m : ℕ). w * m) (length-take-le i xs (omega arith)) in
         let room : w * suc i ≤ w * n = mul-le-mul-left w h in
-        let q : Put l at (w * i) (concat f (take i xs)) b = record { size = size; is = p .is } in
+        let q : Put l at (w * i) (flatMap f (take i xs)) b = record { size = size; is = p .is } in
         let g = put-then q (f (getD xs i d)) (each _) e refl (omega (arith, p .inside)) in
-        let j : concat f (take i xs) ++ f (getD xs i d) ≡ concat f (take (i + 1) xs) =
-        sym (concat-snoc f (take i xs) (getD xs i d)) ∙ ap (concat f) (sym (take-suc xs i d lt) ∙ ap (λ (m : ℕ). take m xs) (sym (add-one i))) in
+        let j : flatMap f (take i xs) ++ f (getD xs i d) ≡ flatMap f (take (i + 1) xs) =
+        sym (flatMap-snoc f (take i xs) (getD xs i d)) ∙ ap (flatMap f) (sym (take-suc xs i d lt) ∙ ap (λ (m : ℕ). take m xs) (sym (add-one i))) in
         record { many = k; inside = p .inside; few = omega arith; is = g .is ∙ ap (putAt l at) j }
 
-    pub each-all : n ≤ i → b ≡ putAt l at (concat f (take n xs))
+    pub each-all : n ≤ i → b ≡ putAt l at (flatMap f (take n xs))
     each-all h =
         let k = p .few in
         let e : i ≡ n = omega arith in
-        p .is ∙ ap (λ (m : ℕ). putAt l at (concat f (take m xs))) e
+        p .is ∙ ap (λ (m : ℕ). putAt l at (flatMap f (take m xs))) e
 
-    pub each-whole : length xs ≡ n → n ≤ i → b ≡ putAt l at (concat f xs)
-    each-whole e h = each-all h ∙ ap (λ (ys : List A). putAt l at (concat f ys)) (take-all n xs (omega arith))
+    pub each-whole : length xs ≡ n → n ≤ i → b ≡ putAt l at (flatMap f xs)
+    each-whole e h = each-all h ∙ ap (λ (ys : List A). putAt l at (flatMap f ys)) (take-all n xs (omega arith))

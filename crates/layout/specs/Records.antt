@@ -1,14 +1,14 @@
 -- Records (document 01): each record as it is written, and as it is read at an offset of a slot; lengths, bytes and samples.
 use Prim.Native.Nat.{ℕ, zero, suc, _+_, _-_, _*_, _/_, _%_}
 use mathlib.Core.Bool.{not, false}
-use mathlib.Core.List.{List, [], _∷_, _++_}
+use mathlib.Core.List.{List, [], _∷_, _++_, flatMap}
 use lib.ListN.{length, getD, take, replicate}
 use lib.Dec.{ltb, leb, eqb}
 use lib.IntN.{ℤ, pos, negsuc}
 use mir.Syntax.{w16, w32}
 use mir.Val.{ofZ, toZ}
 use Rattle.layout.specs.Choice.{pick}
-use Rattle.layout.specs.Lists.{sum, concat, same}
+use Rattle.layout.specs.Lists.{sum, same}
 use Rattle.layout.specs.declared.FrameContext.{FrameContext}
 use Rattle.layout.specs.declared.DspFormat.{DspFormat}
 use Rattle.layout.specs.declared.DspFormat.the-variants.{Adpcm, Pcm16, Pcm8}
@@ -99,7 +99,7 @@ formatOf n = pick (eqb n 0) (value Adpcm) (pick (eqb n 10) (value Pcm16) (pick (
 unfoldable pub channelBytes : Channel → List ℕ
 channelBytes c =
     be16 (pick (c .looping) 1 0) ++ be16 (formatNumber (c .format)) ++ be32 (c .«loop_address») ++ be32 (c .«end_address») ++ be32 (c .«current_address»)
-    ++ concat beZ16 (c .coefficients) ++ be16 (c .gain) ++ contextBytes (c .context)
+    ++ flatMap beZ16 (c .coefficients) ++ be16 (c .gain) ++ contextBytes (c .context)
 
 -- The same, read, with its format.
 unfoldable pub channelAt : List ℕ → ℕ → DspFormat → Channel
@@ -209,14 +209,14 @@ unfoldable pub sizeOf : List (List ℕ) → ℕ
 sizeOf ds = sum (λ d. P (length d)) ds
 
 -- The header of a block with this next offset, length, contexts, cues and data.
-unfoldable pub blockHeader : (next length : ℕ) (left right : FrameContext) → List CuePoint → List (List ℕ) → BlockHeader
+unfoldable pub blockHeader : (next dataLength : ℕ) (left right : FrameContext) → List CuePoint → List (List ℕ) → BlockHeader
 blockHeader next n l r ps ds =
     record { size = sizeOf ds; «end_address» = n - 1; «next_offset» = next; left = l; right = r; cues = length ps }
 
 -- A block: header, "Then come cues of 8 bytes .., filled up to a multiple of 4 cues .. Then each channel's data"
-unfoldable pub blockBytes : (next length : ℕ) (left right : FrameContext) → List CuePoint → List (List ℕ) → List ℕ
+unfoldable pub blockBytes : (next dataLength : ℕ) (left right : FrameContext) → List CuePoint → List (List ℕ) → List ℕ
 blockBytes next n l r ps ds =
-    headerBytes (blockHeader next n l r ps ds) ++ (concat cueBytes ps ++ (concat cueBytes (fillers (length ps)) ++ concat padded ds))
+    headerBytes (blockHeader next n l r ps ds) ++ (flatMap cueBytes ps ++ (flatMap cueBytes (fillers (length ps)) ++ flatMap padded ds))
 
 -- ---- Lengths, bytes and samples
 

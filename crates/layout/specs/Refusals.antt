@@ -43,7 +43,7 @@ abbrev pub startLimit : ℕ
 startLimit = 2147483647
 
 -- "10 length 0 or 1"
-abbrev pub tooShort : (length : ℕ) → Bool
+abbrev pub tooShort : (dataLength : ℕ) → Bool
 tooShort n = ltb n 2
 
 -- "65,536 bytes (mono)"
@@ -63,7 +63,7 @@ abbrev pub lengthLimit : ℕ
 lengthLimit = 2 * monoLimit
 
 -- "13 over .. bytes": by the length, since 13 comes before 11
-abbrev pub tooLarge : (channels length : ℕ) → Bool
+abbrev pub tooLarge : (channels dataLength : ℕ) → Bool
 tooLarge ch n = ltb (sizeLimit ch) (adpcmBytes n)
 
 -- ---- Refused because of the state

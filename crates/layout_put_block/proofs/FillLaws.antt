@@ -1,10 +1,9 @@
 -- Filler and padding.
 use Prim.Native.Nat.{ℕ, _+_, _-_, _*_, _/_, _%_, _<_}
 use mathlib.Core.Path.{_≡_, sym, ap, _∙_}
-use mathlib.Core.List.{[], _∷_}
+use mathlib.Core.List.{[], _∷_, flatMap}
 use native.Mathlib.Omega.{arith}
 use lib.ListN.{length, getD, length-replicate, getD-replicate}
-use Rattle.layout.specs.Lists.{concat}
 use Rattle.layout.specs.Records.{be32, P, cueBytes, filler, fillers}
 use Rattle.layout.proofs.Lengths.{cues-length}
 
@@ -18,7 +17,7 @@ module _ (n : ℕ) where
   unfolding fillers cueBytes be32 P
   fill-one i h = rw (getD-replicate (P (8 * n) / 8 - n) i filler filler (omega arith))
 
-  pub fill-length : length (concat cueBytes (fillers n)) ≡ 8 * ((4 - n % 4) % 4)
+  pub fill-length : length (flatMap cueBytes (fillers n)) ≡ 8 * ((4 - n % 4) % 4)
   fill-length = cues-length (fillers n) ∙ ap (λ (k : ℕ). 8 * k) (sym fill-count)
 
   -- how much is padded

@@ -12,11 +12,10 @@ use layout_put::put_fill;
 use layout_put::put_u16;
 use layout_put::put_words;
 ghost use mathlib.Core.Path.{_≡_};
-ghost use mathlib.Core.List.{[], _∷_, _++_};
+ghost use mathlib.Core.List.{[], _∷_, _++_, flatMap};
 ghost use Rattle.layout.specs.Records.{contextBytes, cueBytes, fillers, padded};
 ghost use Rattle.layout.specs.Puts.{putAt};
 ghost use Rattle.layout_put_block.specs.HeaderPut.{headerPut};
-ghost use Rattle.layout.specs.Lists.{concat};
 
 // A context with the 2 zero bytes that come after it in a block header.
 fn put_block_context(buf: &mut [u8], at: usize, c: FrameContext)
@@ -45,7 +44,7 @@ pub fn put_header(buf: &mut [u8], at: usize, h: BlockHeader)
 
 // The filler after n cues, up to a multiple of 4.
 pub fn put_fillers(buf: &mut [u8], at: usize, n: usize)
-    ensures { λ _. ⌜ now (buf .exit) ≡ putAt (now (buf .entry)) at (concat cueBytes (fillers n)) ⌝ }
+    ensures { λ _. ⌜ now (buf .exit) ≡ putAt (now (buf .entry)) at (flatMap cueBytes (fillers n)) ⌝ }
 {
     let count = (4 - n % 4) % 4;
     if inside(buf.len(), at, CUE_POINT_SIZE * count) {

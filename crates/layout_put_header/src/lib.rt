@@ -12,9 +12,8 @@ use layout_put::put_u16;
 use layout_put::put_u32;
 use layout_put::put_words;
 ghost use mathlib.Core.Path.{_≡_};
-ghost use mathlib.Core.List.{_++_};
+ghost use mathlib.Core.List.{_++_, flatMap};
 ghost use Rattle.layout.specs.Choice.{pick};
-ghost use Rattle.layout.specs.Lists.{concat};
 ghost use Rattle.layout.specs.Records.{be32, beZ16, formatNumber, channelBytes, fileHeaderBytes, magic};
 ghost use Rattle.layout.specs.Puts.{putAt};
 
@@ -35,7 +34,7 @@ fn looping_number(looping: bool) -> u16
 }
 
 pub fn put_coefficients(buf: &mut [u8], at: usize, coefficients: [i16; 16])
-    ensures { λ _. ⌜ now (buf .exit) ≡ putAt (now (buf .entry)) at (concat beZ16 coefficients) ⌝ }
+    ensures { λ _. ⌜ now (buf .exit) ≡ putAt (now (buf .entry)) at (flatMap beZ16 coefficients) ⌝ }
 {
     if inside(buf.len(), at, 32) {
         let mut i: usize = 0;

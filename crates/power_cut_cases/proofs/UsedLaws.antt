@@ -2,7 +2,7 @@
 use Prim.Native.Nat.{ℕ, zero, suc, _<_, _≤_}
 use mathlib.Core.Path.{_≡_, refl, ap, _∙_}
 use mathlib.Core.Bool.{Bool, true, false, not}
-use mathlib.Core.List.{List, [], _∷_, map}
+use mathlib.Core.List.{List, [], _∷_, map, flatMap}
 use native.Mathlib.Omega.{arith}
 use lib.ListN.{length, replicate}
 use lib.Dec.{leb, eqb}
@@ -11,7 +11,7 @@ use mir.Syntax.{w16}
 use mir.Val.{SFits}
 use borrow.Author.Tests.{leb-false, eqb-true, not-false}
 use Rattle.layout.specs.Choice.{_or_}
-use Rattle.layout.specs.Lists.{All, none, more, filter, any, sum, concat, same, firstIndex}
+use Rattle.layout.specs.Lists.{All, none, more, filter, any, sum, same, firstIndex}
 use Rattle.layout.specs.Types.{Bytes, Slice, ContextFits}
 use Rattle.layout.specs.Records.{be16, be32, beZ16, P, contextBytes, channelBytes, noChannel, fileHeaderBytes, headerBytes, cueBytes, fillers, padded, sizeOf, blockHeader, blockBytes, adpcmBytes, adpcmSamples}
 use Rattle.layout.specs.Refusals.{firstDue}
@@ -127,7 +127,7 @@ record Computes (n ch : ℕ) (cs : List Call) (bytes lengths : List ℕ) (writte
   cues : points (bookRun (begun n ch Auto) cs .cues) ≡ written
 
 computes : Computes 300 1 worked file (16 ∷ []) 1 × Computes 420 2 recorded files.stereo (16 ∷ 16 ∷ []) 7
-unfolding filter any sum concat same firstIndex be16 be32 beZ16 P contextBytes channelBytes noChannel fileHeaderBytes headerBytes cueBytes fillers padded sizeOf blockHeader blockBytes adpcmBytes adpcmSamples firstDue lexLt before has insert points pointsOf bytesOf sameZ dataSize stateDue rateDue lengthDue dataDue coefficientsDue earlyDue roomDue pushOrder filled second headerFor beginOf baseOf endOfBlocks lastPushed takes enters bookRun loopBlock nextOf blocksBytes fileHeader fileBytes
+unfolding filter any sum flatMap same firstIndex be16 be32 beZ16 P contextBytes channelBytes noChannel fileHeaderBytes headerBytes cueBytes fillers padded sizeOf blockHeader blockBytes adpcmBytes adpcmSamples firstDue lexLt before has insert points pointsOf bytesOf sameZ dataSize stateDue rateDue lengthDue dataDue coefficientsDue earlyDue roomDue pushOrder filled second headerFor beginOf baseOf endOfBlocks lastPushed takes enters bookRun loopBlock nextOf blocksBytes fileHeader fileBytes
 computes = (
   record { begins = refl; typed = refl; done = refl; file = refl; end = refl; blocks = refl; cues = refl },
   record { begins = refl; typed = refl; done = refl; file = refl; end = refl; blocks = refl; cues = refl },

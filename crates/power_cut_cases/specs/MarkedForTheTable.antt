@@ -2,13 +2,12 @@
 use Prim.Native.Nat.{ℕ, zero, suc, _+_}
 use mathlib.Core.Path.{_≡_}
 use mathlib.Core.Bool.{Bool, true, false}
-use mathlib.Core.List.{List, [], _∷_, _++_, map}
+use mathlib.Core.List.{List, [], _∷_, _++_, map, flatMap}
 use lib.ListN.{take, drop, replicate}
 use lib.IntN.{ℤ, pos, negsuc}
 use mir.Syntax.{w16}
 use mir.Val.{ofZ}
 use Rattle.layout.specs.Choice.{pick}
-use Rattle.layout.specs.Lists.{concat}
 use Rattle.layout.specs.Records.{on, formatNumber, readHeader, lengthIn, addressToByteUp, adpcmSamples, numSamples, zeroContext}
 use Rattle.layout.specs.declared.FrameContext.{FrameContext}
 use Rattle.layout.specs.declared.DspFormat.the-variants.{Adpcm, Pcm16, Pcm8}
@@ -86,7 +85,7 @@ head (Opened.opened r) = r .rate ∷ r .count ∷ r .blocks ∷ loopIndex (r .«
 -- Both channels of an opening, and its first three offsets.
 abbrev channels : Opened → List ℕ
 channels (Opened.refused n) = stop n ∷ []
-channels (Opened.opened r) = concat channel (r .channels) ++ take 3 (r .offsets)
+channels (Opened.opened r) = flatMap channel (r .channels) ++ take 3 (r .offsets)
 
 -- BLCK: offset, length, samples, cues
 abbrev blck : List ℕ → ℕ → List ℕ
@@ -167,7 +166,7 @@ abbrev pushed : Book → Push → ℕ → ℕ
 pushed b p lent = numberDue b (Call.push p (replicate lent 9))
 
 -- A stereo push of zeros: the right side's rate, length, data and coefficients.
-abbrev pair : (rate length : ℕ) → List ℕ → List ℤ → Push
+abbrev pair : (rate dataLength : ℕ) → List ℕ → List ℤ → Push
 pair rate n bs zs =
     record { channels = 2; left = side 16 eight; right = record { block = record { rate = rate; length = n; coefficients = zs; gain = 0; context = zeroContext }; bytes = bs }; last = false }
 

@@ -2,7 +2,7 @@
 use Prim.Native.Nat.{ℕ, zero, suc, _+_, _-_, _/_, _%_, _<_, _≤_}
 use mathlib.Core.Path.{_≡_, refl, sym, ap, _∙_}
 use mathlib.Core.Bool.{Bool, true, false}
-use mathlib.Core.List.{List, [], _∷_, _++_}
+use mathlib.Core.List.{List, [], _∷_, _++_, flatMap}
 use native.Mathlib.Omega.{arith}
 use native.Mathlib.Nat.{le-of-suc-le-suc, not-suc-le-zero}
 use lib.ListN.{length, take, drop, getD, replicate, length-take, length-drop}
@@ -10,7 +10,7 @@ use lib.Dec.{eqb, ltb, leb}
 use borrow.Author.Tests.{leb-false}
 use lib.IntN.{ℤ}
 use Rattle.layout.specs.Choice.{pick, _or_}
-use Rattle.layout.specs.Lists.{All, none, more, any, concat, filter}
+use Rattle.layout.specs.Lists.{All, none, more, any, filter}
 use Rattle.layout.specs.Types.{Bytes}
 use Rattle.layout.specs.Records.{P, adpcmSamples, magic, be16, be32, beZ16, contextBytes, channelBytes, fileHeaderBytes, headerBytes, cueBytes, fillers, padded, blockHeader, blockBytes, fileHeaderSize}
 use Rattle.layout.specs.declared.FrameContext.{FrameContext}
@@ -48,10 +48,10 @@ all-replicate : (n x : ℕ) → Small x → All Small (replicate n x)
 all-replicate zero x h = none
 all-replicate (suc n) x h = more h (all-replicate n x h)
 
-all-concat : {A : Type 0} (f : A → List ℕ) → ((x : A) → All Small (f x)) → (xs : List A) → All Small (concat f xs)
-unfolding concat
-all-concat f h [] = none
-all-concat f h (x ∷ xs) = all-append (h x) (all-concat f h xs)
+all-flatMap : {A : Type 0} (f : A → List ℕ) → ((x : A) → All Small (f x)) → (xs : List A) → All Small (flatMap f xs)
+unfolding flatMap
+all-flatMap f h [] = none
+all-flatMap f h (x ∷ xs) = all-append (h x) (all-flatMap f h xs)
 
 to-bytes : {l : List ℕ} → All Small l → Bytes l
 to-bytes none i h = absurd (not-suc-le-zero h)
@@ -86,7 +86,7 @@ small-z z = small-16 _
 small-channel : (c : Channel) → All Small (channelBytes c)
 unfolding channelBytes
 small-channel c =
-    all-append (all-append (all-append (all-append (all-append (all-append (all-append (small-16 _) (small-16 _)) (small-32 _)) (small-32 _)) (small-32 _)) (all-concat beZ16 small-z _)) (small-16 _)) (small-context _)
+    all-append (all-append (all-append (all-append (all-append (all-append (all-append (small-16 _) (small-16 _)) (small-32 _)) (small-32 _)) (small-32 _)) (all-flatMap beZ16 small-z _)) (small-16 _)) (small-context _)
 
 small-file : (rate count : ℕ) (l r : Channel) → All Small (fileHeaderBytes rate count l r)
 unfolding fileHeaderBytes any
@@ -96,8 +96,8 @@ small-cue : (c : CuePoint) → All Small (cueBytes c)
 unfolding cueBytes
 small-cue c = all-append (small-32 _) (small-32 _)
 
-small-data : (ds : List (List ℕ)) → All (All Small) ds → All Small (concat padded ds)
-unfolding concat padded
+small-data : (ds : List (List ℕ)) → All (All Small) ds → All Small (flatMap padded ds)
+unfolding flatMap padded
 small-data [] none = none
 small-data (d ∷ ds) (more q a) = all-append (all-append q (all-replicate (P (length d) - length d) 0 (omega arith))) (small-data ds a)
 
@@ -106,7 +106,7 @@ unfolding blockBytes headerBytes blockHeader any
 small-block next n l r ps ds few a =
     all-append
     (all-append (all-append (all-append (all-append (all-append (all-append (all-append (small-32 _) (small-32 _)) (small-32 _)) (small-context l)) (smalls (0 ∷ 0 ∷ []) refl)) (small-context r)) (smalls (0 ∷ 0 ∷ []) refl)) (more few (smalls (0 ∷ 0 ∷ 0 ∷ []) refl)))
-    (all-append (all-concat cueBytes small-cue ps) (all-append (all-concat cueBytes small-cue _) (small-data ds a)))
+    (all-append (all-flatMap cueBytes small-cue ps) (all-append (all-flatMap cueBytes small-cue _) (small-data ds a)))
 
 -- ---- The calls
 

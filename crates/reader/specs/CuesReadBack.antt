@@ -53,7 +53,7 @@ abbrev pub pointOf : (base : ℕ) → CuePoint → CueAnswer
 pointOf b c = CueAnswer.point ((b + ofZ w64 (c .«sample_index»)) % 2 ^ 64) (c .id)
 
 -- "Base is the sum of samples of earlier blocks in channel 0's format.": one more block's, in 64 bits
-abbrev pub baseAfter : HpsReader → (base length : ℕ) → ℕ
+abbrev pub baseAfter : HpsReader → (base dataLength : ℕ) → ℕ
 baseAfter r b n = (b + numSamples (channelIn r 0 .format) n) % 2 ^ 64
 
 -- "Blocks in order; on the loop block first a Loop cue at base, then each cue ..": a step over the offsets from block i on, at place j;

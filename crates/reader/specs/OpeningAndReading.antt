@@ -80,7 +80,7 @@ pub data BlockAnswer : Type 0 where
   refused : (number : ℕ) → BlockAnswer
   refusedAt : (number position : ℕ) → BlockAnswer
   ended : BlockAnswer
-  gave : (rate : ℕ) (format : DspFormat) (coefficients : List ℤ) (gain length : ℕ) (context : FrameContext) (start : ℕ) (bytes : List ℕ) (position : ℕ) → BlockAnswer
+  gave : (rate : ℕ) (format : DspFormat) (coefficients : List ℤ) (gain dataLength : ℕ) (context : FrameContext) (start : ℕ) (bytes : List ℕ) (position : ℕ) → BlockAnswer
 
 -- The record's channel.
 abbrev pub channelIn : HpsReader → ℕ → Channel

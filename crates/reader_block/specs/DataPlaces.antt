@@ -17,7 +17,7 @@ dataSays (DataRead.Value d) = Read.value d
 dataSays (DataRead.Refused n) = Read.refused n
 
 -- Where the data of a block lies, in a slot of this length; "1 if .. data leaves the slot".
-abbrev pub dataPlaced : (slot start bytes length : ℕ) → FrameContext → Read BlockData
+abbrev pub dataPlaced : (slot start bytes dataLength : ℕ) → FrameContext → Read BlockData
 dataPlaced slot start n len c =
     pick (leb (start + n) slot) (Read.value (record { length = len; context = c; start = start; end = start + n })) (Read.refused 1)
 

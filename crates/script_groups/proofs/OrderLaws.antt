@@ -130,27 +130,27 @@ module _ (s : List ℕ) (from : ℕ) where
 -- ---- BEGN's line
 
 -- The lines before this place are no BEGN.
-pub record Opens (s : List ℕ) (lent at now : ℕ) : Type 0 where
-  pub is : openingFrom lent (linesOf s) ≡ openingFrom now (linesOf (drop at s))
+pub record Opens (s : List ℕ) (lent at here : ℕ) : Type 0 where
+  pub is : openingFrom lent (linesOf s) ≡ openingFrom here (linesOf (drop at s))
 
 pub opens-none : (s : List ℕ) (lent : ℕ) → Opens s lent 0 lent
 opens-none s lent = record { is = refl }
 
-module _ {s : List ℕ} {lent at now : ℕ} (k : Opens s lent at now) where
+module _ {s : List ℕ} {lent at here : ℕ} (k : Opens s lent at here) where
   module _ {line : List ℕ} {kind : Kind} {b : Bool} (h : at < length s) (l : line ≡ lineOf (drop at s)) (e : kind ≡ lineKind line) (t : b ≡ isKind kind Kinds.Begin) where
-    pub opens-here : b ≡ true → Starts s lent (record { at = at; lent = now })
+    pub opens-here : b ≡ true → Starts s lent (record { at = at; lent = here })
     unfolding openingFrom
     opens-here q =
-        let f : openingFrom lent (linesOf s) ≡ record { line = lineOf (drop at s); lent = now; rest = linesOf (linesAfter (drop at s)) } = k .is ∙ rw (lines-at s at h, ← l, ← e, ← t, q) in
+        let f : openingFrom lent (linesOf s) ≡ record { line = lineOf (drop at s); lent = here; rest = linesOf (linesAfter (drop at s)) } = k .is ∙ rw (lines-at s at h, ← l, ← e, ← t, q) in
         record { line = rw f; buffer = rw f; rest = rw f }
 
-    pub opens-later : {next more : ℕ} → b ≡ false → more ≡ lentBy kind line now → drop next s ≡ linesAfter (drop at s) → Opens s lent next more
+    pub opens-later : {next more : ℕ} → b ≡ false → more ≡ lentBy kind line here → drop next s ≡ linesAfter (drop at s) → Opens s lent next more
     unfolding openingFrom
     opens-later q m d = record { is = k .is ∙ rw (lines-at s at h, ← l, ← e, ← t, q, m, d) }
 
-  pub opens-never : length s ≤ at → Starts s lent (record { at = at; lent = now })
+  pub opens-never : length s ≤ at → Starts s lent (record { at = at; lent = here })
   unfolding openingFrom
   opens-never h =
       let z = past-end s at h in
-      let f : openingFrom lent (linesOf s) ≡ record { line = []; lent = now; rest = [] } = k .is ∙ rw (z, lines-none) in
+      let f : openingFrom lent (linesOf s) ≡ record { line = []; lent = here; rest = [] } = k .is ∙ rw (z, lines-none) in
       record { line = rw (z, f, line-end); buffer = rw f; rest = rw (z, f, next-end, lines-none) }

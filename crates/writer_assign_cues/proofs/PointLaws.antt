@@ -2,12 +2,12 @@
 use Prim.Native.Nat.{ℕ, _+_, _-_, _*_, _/_, _%_, _<_, _≤_}
 use mathlib.Core.Path.{_≡_, refl, ap, sym, _∙_}
 use mathlib.Core.Bool.{Bool, true, false}
-use mathlib.Core.List.{List, [], _∷_, _++_}
+use mathlib.Core.List.{List, [], _∷_, _++_, flatMap}
 use native.Mathlib.Omega.{arith}
 use native.Mathlib.Numerals.{add-one}
 use lib.ListN.{length, getD, length-append}
 use lib.Seq.{slice}
-use Rattle.layout.specs.Lists.{concat, filter}
+use Rattle.layout.specs.Lists.{filter}
 use Rattle.layout.specs.Records.{P, be32, cueBytes, fillers}
 use Rattle.layout.specs.Puts.{putAt}
 use Rattle.layout.specs.Sizes.{saturated}
@@ -65,7 +65,7 @@ module _ (l : List ℕ) (at base id : ℕ) (t : List Cue) (from to : ℕ) (b : L
 
     module _ (h : q ≡ false) where
       one : pointBytes base n (slice k to t) ≡ cueBytes (cuePoint (getD t k z .start - base) n) ++ pointBytes base (n + 1) (slice (k + 1) to t)
-      unfolding pointBytes pointsOf concat
+      unfolding pointBytes pointsOf flatMap
       one = rw (unrolled t to k len most z lt, sym is ∙ h, add-one n)
 
       pub point-room : p + 8 ≤ length b
@@ -94,7 +94,7 @@ module _ (l : List ℕ) (at base id : ℕ) (t : List Cue) (from to : ℕ) (b : L
           }
 
   pub points-end : to ≤ k → b ≡ putAt l at (pointBytes base id (slice from to t))
-  unfolding pointBytes pointsOf concat
+  unfolding pointBytes pointsOf flatMap
   points-end ge =
       let e : pointBytes base n (slice k to t) ≡ [] = rw (none-left t to k len most ge) in
       sym (putAt-none b p) ∙ rw e at (inv .rest)
@@ -105,7 +105,7 @@ point-length : (b n : ℕ) (cs : List Cue) → length (pointBytes b n cs) ≡ 8 
 unfolding pointBytes
 point-length b n cs = cues-length (pointsOf b n cs) ∙ ap (λ (m : ℕ). 8 * m) (points-length b n cs)
 
-fill-length : (b n : ℕ) (cs : List Cue) → length (pointBytes b n cs) + length (concat cueBytes (fillers (points cs))) ≡ P (8 * points cs)
+fill-length : (b n : ℕ) (cs : List Cue) → length (pointBytes b n cs) + length (flatMap cueBytes (fillers (points cs))) ≡ P (8 * points cs)
 unfolding pointBytes
 fill-length b n cs = rw (points-length b n cs) at (filled-length (pointsOf b n cs))
 
@@ -132,14 +132,14 @@ module _ (l : List ℕ) (at base id k : ℕ) (cs : List Cue) (counted : k ≡ po
         let e : P (8 * k) ≡ P (8 * points cs) = ap (λ (m : ℕ). P (8 * m)) counted in
         omega (arith, fill-length base id cs)
 
-    pub taken-put : (b b′ : List ℕ) → b ≡ putAt l at (pointBytes base id cs) → b′ ≡ putAt b (at + 8 * k) (concat cueBytes (fillers k))
+    pub taken-put : (b b′ : List ℕ) → b ≡ putAt l at (pointBytes base id cs) → b′ ≡ putAt b (at + 8 * k) (flatMap cueBytes (fillers k))
         → b′ ≡ putAt l at (filledBytes base id cs)
     unfolding filledBytes
     taken-put b b′ e f =
         let p : P (8 * k) ≡ P (8 * points cs) = ap (λ (m : ℕ). P (8 * m)) counted in
-        let f′ : b′ ≡ putAt b (at + 8 * k) (concat cueBytes (fillers (points cs))) = rw (← counted) f in
+        let f′ : b′ ≡ putAt b (at + 8 * k) (flatMap cueBytes (fillers (points cs))) = rw (← counted) f in
         let s = point-length base id cs in
-        put-then (record { size = s; is = e }) (concat cueBytes (fillers (points cs))) refl f′ (omega arith) (omega (arith, fill-length base id cs)) .is
+        put-then (record { size = s; is = e }) (flatMap cueBytes (fillers (points cs))) refl f′ (omega arith) (omega (arith, fill-length base id cs)) .is
 
 -- ---- Any places and any buffer
 

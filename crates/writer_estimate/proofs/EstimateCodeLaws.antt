@@ -24,7 +24,7 @@ use Rattle.writer.proofs.GoodLaws.{short-length}
 
 -- ---- One length
 
-abbrev pub byLength : (channels length : ℕ) → ℕ
+abbrev pub byLength : (channels dataLength : ℕ) → ℕ
 byLength ch n = firstDue (due 10 (tooShort n) ∷ due 13 (tooLarge ch n) ∷ [])
 
 module _ (ch n : ℕ) where
@@ -65,7 +65,7 @@ P-few n h = omega arith
 abbrev pub mostBlock : ℕ
 mostBlock = blockHeaderSize + 2 * monoLimit
 
-abbrev pub forBlock : (channels length : ℕ) → ℕ
+abbrev pub forBlock : (channels dataLength : ℕ) → ℕ
 forBlock ch n = blockHeaderSize + ch * P (adpcmBytes n)
 
 block-few : (ch n : ℕ) → ch ≤ 2 → adpcmBytes n ≤ monoLimit → forBlock ch n ≤ mostBlock

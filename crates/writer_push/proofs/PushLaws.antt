@@ -2,14 +2,13 @@
 use Prim.Native.Nat.{ℕ, _+_, _≤_}
 use mathlib.Core.Path.{_≡_, refl, ap, sym, _∙_}
 use mathlib.Core.Bool.{Bool, true, false}
-use mathlib.Core.List.{List, append-nil}
+use mathlib.Core.List.{List, append-nil, flatMap}
 use native.Mathlib.Omega.{arith}
 use native.Mathlib.Nat.{zero-add}
 use borrow.Author.Tests.{ltb-false, eq-eqb, ne-eqb, eqb-true, eqb-false}
 use lib.ListN.{length}
 use lib.Seq.{slice}
 use lib.Dec.{eqb}
-use Rattle.layout.specs.Lists.{concat}
 use Rattle.layout.specs.Records.{adpcmSamples, padded, dataAfter}
 use Rattle.layout.specs.Refusals.{Due, firstDue, cueLimit, lengthLimit}
 use Rattle.layout.specs.Sizes.{saturated}
@@ -211,7 +210,7 @@ module _ {w : HpsWriter} {ch : ℕ} {l r : ChannelBlock} {ld rd : List ℕ} {las
 
     pub bytes-are : (b₁ b₂ b₃ : List ℕ) → b₁ ≡ putAt lent 0 (headerPut (plan .header))
         → b₂ ≡ putAt b₁ 32 (filledBytes (w .stream .base) (w .stream .id) (slice (w .stream .next) (t .to) (w .table .cues)))
-        → b₃ ≡ putAt b₂ (plan .start) (concat padded (dataIn ch ld rd)) → b₃ ≡ putAt lent 0 (pushBytes w args)
+        → b₃ ≡ putAt b₂ (plan .start) (flatMap padded (dataIn ch ld rd)) → b₃ ≡ putAt lent 0 (pushBytes w args)
     unfolding pushBytes bytesOf
     bytes-are b₁ b₂ b₃ e₁ e₂ e₃ =
         block-put (w .stream .base) (w .stream .id) (t .points) ch (slice (w .stream .next) (t .to) (w .table .cues)) l r ld rd lent (nextFor w args)

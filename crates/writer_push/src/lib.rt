@@ -14,10 +14,10 @@ use writer_assign_cues::put_taken;
 use writer_assign_cues::take;
 use writer_push_plan::block_end;
 use writer_push_plan::plan_push;
+ghost use mathlib.Core.List.{flatMap};
 ghost use mathlib.Core.Path.{_≡_};
 ghost use Prim.Native.Nat.{_+_};
 ghost use lib.ListN.{length};
-ghost use Rattle.layout.specs.Lists.{concat};
 ghost use Rattle.layout.specs.Records.{padded};
 ghost use Rattle.layout.specs.Puts.{putAt};
 ghost use Rattle.writer.specs.Calls.{called, pushOf, Good};
@@ -25,7 +25,7 @@ ghost use Rattle.writer.specs.Loading.{pushArgs, dataIn};
 
 // Each channel's data, padded; where it does not fit wholly, nothing is changed.
 pub fn put_data(buf: &mut [u8], at: usize, channels: usize, left: &[u8], right: &[u8])
-    ensures { λ _. ⌜ now (buf .exit) ≡ putAt (now (buf .entry)) at (concat padded (dataIn channels (now (left .entry)) (now (right .entry)))) ⌝ }
+    ensures { λ _. ⌜ now (buf .exit) ≡ putAt (now (buf .entry)) at (flatMap padded (dataIn channels (now (left .entry)) (now (right .entry)))) ⌝ }
 {
     let first = align(left.len());
     if inside(buf.len(), at, first) {

@@ -38,10 +38,10 @@ pub struct Plan {
 }
 
 // The sample that a block of this length ends before, or u64::MAX where that is larger.
-pub fn block_end(base: u64, length: usize) -> u64
-    ensures { λ r. ⌜ r ≡ saturated (base + adpcmSamples length) ⌝ }
+pub fn block_end(base: u64, size: usize) -> u64
+    ensures { λ r. ⌜ r ≡ saturated (base + adpcmSamples size) ⌝ }
 {
-    let samples = adpcm_samples(length) as u64;
+    let samples = adpcm_samples(size) as u64;
     if samples <= u64::MAX - base {
         base + samples
     } else {

@@ -1,11 +1,10 @@
 use Prim.Native.Nat.{_+_, _≤_}
 use mathlib.Core.Path.{_≡_, refl, ap, _∙_}
-use mathlib.Core.List.{_++_, append-assoc}
+use mathlib.Core.List.{_++_, append-assoc, flatMap}
 use native.Mathlib.Omega.{arith}
 use lib.ListN.{length}
 use denote.Ref.{now}
 use borrow.Author.Needs.{needs}
-use Rattle.layout.specs.Lists.{concat}
 use Rattle.layout.specs.Records.{be16, be32, beZ16, contextBytes, channelBytes}
 use Rattle.layout.specs.Puts.{putAt}
 use Rattle.layout.proofs.Lengths.{be16-length, words-length, context-length, coefficients-length, channel-length}
@@ -82,7 +81,7 @@ returns c =
     let p0 : Put _ _ 2 (be16 _) _ = record { size = be16-length _; is = farthest .put-u16 .ensures } in
     let p1 = put-then p0 (be16 _) (be16-length _) (farther .before .before .before .before .put-u162 .ensures) refl (omega arith) in
     let p2 = put-then p1 (be32 _ ++ be32 _ ++ be32 _) (words-length _ _ _) (farther .put-words .ensures) refl (omega arith) in
-    let p3 = put-then {m = 32} p2 (concat beZ16 _) (coefficients-length _ ∙ omega arith) (far .before .before .before .before .put-coefficients .ensures) refl (omega arith) in
+    let p3 = put-then {m = 32} p2 (flatMap beZ16 _) (coefficients-length _ ∙ omega arith) (far .before .before .before .before .put-coefficients .ensures) refl (omega arith) in
     let p4 = put-then p3 (be16 _) (be16-length _) (far .put-u163 .ensures) refl (omega arith) in
     let p5 = put-then p4 (contextBytes _) (context-length _) (c .before .before .put-context .ensures) refl (omega arith) in
     p5 .is ∙ ap (putAt _ _) (simp (append-assoc, farthest .before .looping-number .ensures, farther .before .before .before .before .before .format-number .ensures))

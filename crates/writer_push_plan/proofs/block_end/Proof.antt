@@ -19,12 +19,12 @@ add-result c = search needs
 returns : tie.Need-returns
 returns c =
     let s = c .before .before in
-    end-fits (s .args .base) (s .args .length) _ (c .before .adpcm-samples .ensures) (c .if1 .taken) (omega (arith, s .fits .base .fits))
+    end-fits (s .args .base) (s .args .size) _ (c .before .adpcm-samples .ensures) (c .if1 .taken) (omega (arith, s .fits .base .fits))
 
 returns-2 : tie.Need-returns-2
 returns-2 c =
     let s = c .before .before in
-    end-over (s .args .base) (s .args .length) _ (c .before .adpcm-samples .ensures) (c .if1 .left) (omega (arith, s .fits .base .fits))
+    end-over (s .args .base) (s .args .size) _ (c .before .adpcm-samples .ensures) (c .if1 .left) (omega (arith, s .fits .base .fits))
 
 pub block-end-spec : {M : Type 1} → statement M
 block-end-spec = tie.close (tie.spec adpcm-samples-requires sub-if1 add-result returns returns-2)

@@ -42,6 +42,9 @@ module _ {s : List ℕ} {r : HpsReader} {stage : Stage} {before after : List ℕ
       let h : 0 + length lines ≤ length before = omega (arith, f .long, filled-fits f) in
       rw (f .put, putAt-in before 0 lines h) (take-at lines _ (x .length) (sym (f .long)))
 
+  pub lines-there : (n : ℕ) → length before ≡ n → take (x .length) after ≡ linesFitting n (linesFrom s r stage)
+  lines-there n e = rw (← e) first-lines
+
   -- less is still to be listed
   pub less-listed : (x .length ≡ 0 → ⊥) → length (listingFrom s r (x .stage)) < length (listingFrom s r stage)
   less-listed h = omega (arith, f .long, ap length (filled-rest f), length-append lines (listingFrom s r (x .stage)))

@@ -12,7 +12,8 @@ ghost use Prim.Native.Nat.{ℕ, _≤_};
 ghost use lib.ListN.{length};
 ghost use Rattle.reader.specs.OpeningAndReading.{Readable};
 ghost use Rattle.reader.specs.declared.HpsReader.{HpsReader};
-ghost use Rattle.key_listing.specs.MarkingKey.{listing, listingFrom};
+ghost use Rattle.key_listing.specs.MarkingKey.{listing, listingFrom, linesFrom};
+ghost use Rattle.key_listing.specs.Filling.{linesFitting};
 ghost use Rattle.key_print.specs.Portions.{Held, MoreIs, Common};
 
 // Room for a slot: one byte more than is listed, so that a longer slot is seen to be longer.
@@ -20,6 +21,13 @@ pub fn slot_room() -> [u8; 65537]
     ensures { λ r. ⌜ 65537 ≡ length r ⌝ }
 {
     [0; 65537]
+}
+
+// What is handed to the system are the lines from this stage on that fit: slot, record and stage are there for the premise alone.
+fn write_lines(fd: i32, s: &[u8], r: HpsReader, stage: Stage, bytes: &[u8]) -> bool
+    requires { ⌜ now bytes ≡ linesFitting 65536 (linesFrom (now s) r stage) ⌝ }
+{
+    write_all(fd, bytes)
 }
 
 // Prints the listing of a slot.
@@ -34,7 +42,7 @@ pub fn print_listing(fd: i32, s: &[u8]) {
         if n == 0 {
             return;
         }
-        if !write_all(fd, &out[..n]) {
+        if !write_lines(fd, s, r, stage, &out[..n]) {
             return;
         }
         stage = filled.stage;

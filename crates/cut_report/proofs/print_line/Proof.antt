@@ -1,9 +1,9 @@
-use Prim.Native.Nat.{_≤_}
 use mathlib.Core.Path.{sym}
 use native.Mathlib.Omega.{arith}
 use lib.Seq.{length-take-le}
 use borrow.Author.Needs.{needs}
 use Rattle.key_lines.proofs.LineLaws.{put-most}
+use Rattle.cut_report.proofs.ThreeLaws.{line-there}
 use Rattle.cut_report.proofs.print_line.Statement.{statement}
 use Rattle.cut_report.proofs.print_line.Tie as tie
 
@@ -16,13 +16,16 @@ put-line-requires c κs = search needs
 array-share-prefix-out : tie.Need-array-share-prefix-out
 array-share-prefix-out c = omega (arith, put-most (c .before .put-line .ensures))
 
-slice-aggregate-write-all : tie.Need-slice-aggregate-write-all
-slice-aggregate-write-all c =
+slice-aggregate-write-line : tie.Need-slice-aggregate-write-line
+slice-aggregate-write-line c =
     let h = put-most (c .before .before .put-line .ensures) in
     sym (length-take-le _ _ (omega arith))
 
-write-all-requires : tie.Need-write-all-requires
-write-all-requires c κs = search needs
+write-line-requires : tie.Need-write-line-requires
+write-line-requires c κs =
+    let p = c .before .before in
+    let s = p .before .before .before in
+    line-there (s .args .word .now) (s .args .a) (s .args .b) (s .args .c) (search (p .before .before .letters .given, needs)) (search needs) (p .put-line .ensures)
 
 returns : tie.Need-returns
 returns c = search needs
@@ -34,6 +37,6 @@ print-line-spec =
     slice-aggregate-put-line
     put-line-requires
     array-share-prefix-out
-    slice-aggregate-write-all
-    write-all-requires
+    slice-aggregate-write-line
+    write-line-requires
     returns)

@@ -3,7 +3,7 @@ use mathlib.Core.Path.{_≡_}
 use lib.ListN.{length}
 use Rattle.key_listing.specs.MarkingKey.{listingFrom}
 use Rattle.key_listing.proofs.LineLaws.{filled-inside, filled-prefix}
-use Rattle.key_print.proofs.PortionLaws.{less-listed}
+use Rattle.key_print.proofs.PortionLaws.{lines-there, less-listed}
 use Rattle.key_print.proofs.print_listing.Statement.{statement}
 use Rattle.key_print.proofs.print_listing.Tie as tie
 
@@ -34,11 +34,11 @@ returns c = search needs
 array-share-prefix-out : tie.Need-array-share-prefix-out Inv-loop μ-loop
 array-share-prefix-out c = filled-inside (c .before .before .fill .ensures)
 
-slice-aggregate-write-all : tie.Need-slice-aggregate-write-all Inv-loop μ-loop
-slice-aggregate-write-all c = filled-prefix (c .before .before .before .fill .ensures)
+slice-aggregate-write-lines : tie.Need-slice-aggregate-write-lines Inv-loop μ-loop
+slice-aggregate-write-lines c = filled-prefix (c .before .before .before .fill .ensures)
 
-write-all-requires : tie.Need-write-all-requires Inv-loop μ-loop
-write-all-requires c κs = search needs
+write-lines-requires : tie.Need-write-lines-requires Inv-loop μ-loop
+write-lines-requires c κs = search (lines-there, needs)
 
 returns-2 : tie.Need-returns-2 Inv-loop μ-loop
 returns-2 c = search needs
@@ -62,8 +62,8 @@ print-listing-spec =
     fill-requires
     returns
     array-share-prefix-out
-    slice-aggregate-write-all
-    write-all-requires
+    slice-aggregate-write-lines
+    write-lines-requires
     returns-2
     loop-less
     loop-again)

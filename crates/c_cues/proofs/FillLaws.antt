@@ -115,7 +115,8 @@ module _ (s : List ℕ) (r : HpsReader) (from : CueIterator) (before out : List 
     step = ap (λ (n : ℕ). cuesGiven s r n c) one-left
 
     -- a cue is given
-    given : (start kind name : ℕ) {l : List ℕ} → cuesGiven s r (length before / 16 - cues) c ≡ ahead 1 (cueKept start kind name) (cuesGiven s r (length before / 16 - (cues + 1)) (cueStep s r c .after))
+    given : (start kind name : ℕ) {l : List ℕ} → cuesGiven s r (length before / 16 - cues) c ≡ ahead 1 (cueKept start kind name)
+        (cuesGiven s r (length before / 16 - (cues + 1)) (cueStep s r c .after))
         → l ≡ putAt out at (cueKept start kind name) → Filling s r from before l (cueStep s r c .after) (cues + 1) (at + 16)
     given start kind name e f =
         let z : at ≡ 0 + at = omega arith in

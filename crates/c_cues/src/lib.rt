@@ -95,7 +95,8 @@ fn fill_cues(
 ) -> CuesFilled
     requires { ⌜ blocks ≤ length (now offsets) ⌝ }
     ensures { λ q. ⌜ ((r : HpsReader) → PartsOf r (now (offsets .entry)) blocks start format → q ≡ givenOf (cuesGiven (now (s .entry)) r (length (now (out .entry)) / 16) from)) ⌝ }
-    ensures { λ _. ⌜ ((r : HpsReader) → PartsOf r (now (offsets .entry)) blocks start format → now (out .exit) ≡ putAt (now (out .entry)) 0 (cuesGiven (now (s .entry)) r (length (now (out .entry)) / 16) from .bytes)) ⌝ }
+    ensures { λ _. ⌜ ((r : HpsReader) → PartsOf r (now (offsets .entry)) blocks start format
+        → now (out .exit) ≡ putAt (now (out .entry)) 0 (cuesGiven (now (s .entry)) r (length (now (out .entry)) / 16) from .bytes)) ⌝ }
 {
     // The cursor by its numbers: a cursor as a whole would be copied some times for each cue.
     let mut block = from.block;

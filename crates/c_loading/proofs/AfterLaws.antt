@@ -65,7 +65,19 @@ loops-good (LoopAt.At n) o h = le-leb n o (h n refl)
 pub good-sensible : (w : HpsWriter) → Good w → sensible (fieldsOf w) ≡ true
 unfolding sensible placesGood sumsGood
 good-sensible w g =
-    rw (le-leb _ _ (g .small), le-leb _ _ (g .room), le-leb _ _ (g .few), le-leb _ _ (g .placed), le-leb (w .stream .id) (w .stream .next + 1) (omega (arith, g .named)), le-leb _ _ (g .many), le-leb _ _ (g .base), le-leb _ _ (g .sums), le-leb _ _ (g .counted), marks-good (w .stream .blocks) (w .stream .last) (w .finished) (g .some) (g .done), loops-good (w .stream .loopat) (w .stream .offset) (g .looped))
+    rw (
+      le-leb _ _ (g .small),
+      le-leb _ _ (g .room),
+      le-leb _ _ (g .few),
+      le-leb _ _ (g .placed),
+      le-leb (w .stream .id) (w .stream .next + 1) (omega (arith, g .named)),
+      le-leb _ _ (g .many),
+      le-leb _ _ (g .base),
+      le-leb _ _ (g .sums),
+      le-leb _ _ (g .counted),
+      marks-good (w .stream .blocks) (w .stream .last) (w .finished) (g .some) (g .done),
+      loops-good (w .stream .loopat) (w .stream .offset) (g .looped),
+    )
 
 -- ---- A table has zeros after its cues
 
@@ -123,7 +135,23 @@ module _ (kept : List ℕ) (t : List Cue) (n : ℕ) (len : length t ≡ cueLimit
   fields-after =
       let f = front-left kept t n len few room in
       let r = rest-left kept t n len few room in
-      rw (long-same f 0 (omega arith) (omega arith), long-same f 8 (omega arith) (omega arith), count-back kept t n len few room, long-same r 24 (omega arith) (omega arith), long-same r 32 (omega arith) (omega arith), long-same r 40 (omega arith) (omega arith), long-same r 48 (omega arith) (omega arith), long-same r 56 (omega arith) (omega arith), long-same r 64 (omega arith) (omega arith), word-same r 72 (omega arith) (omega arith), word-same r 76 (omega arith) (omega arith), word-same r 80 (omega arith) (omega arith), word-same r 84 (omega arith) (omega arith), side-same r leftAt (omega arith) (omega arith), side-same r rightAt (omega arith) (omega arith))
+      rw (
+        long-same f 0 (omega arith) (omega arith),
+        long-same f 8 (omega arith) (omega arith),
+        count-back kept t n len few room,
+        long-same r 24 (omega arith) (omega arith),
+        long-same r 32 (omega arith) (omega arith),
+        long-same r 40 (omega arith) (omega arith),
+        long-same r 48 (omega arith) (omega arith),
+        long-same r 56 (omega arith) (omega arith),
+        long-same r 64 (omega arith) (omega arith),
+        word-same r 72 (omega arith) (omega arith),
+        word-same r 76 (omega arith) (omega arith),
+        word-same r 80 (omega arith) (omega arith),
+        word-same r 84 (omega arith) (omega arith),
+        side-same r leftAt (omega arith) (omega arith),
+        side-same r rightAt (omega arith) (omega arith),
+      )
 
 -- bytes that hold a record: put into them is the table of the record that the call gives
 pub cue-after : (kept : List ℕ) (c : Cue) (after : HpsWriter) (put : List ℕ) → (streamIn kept .slot ≡ 0 → ⊥) → after ≡ cueOf (writerIn kept) c .writer

@@ -140,7 +140,8 @@ numbers-back k s t g ch a l r =
     let room = g .room in
     let many = g .many in
     let p = places-back 0 (s .slot) (s .channels) (s .count) (s .next) (omega arith) ch (omega arith) (omega arith) (at-left places sums front) in
-    let q = sums-back 32 (s .base) (s .offset) (s .blocks) (s .sum) (omega (arith, g .base)) (omega arith) (omega arith) (omega (arith, g .sums)) (at-move 32 (omega arith) (at-right places sums front)) in
+    let q = sums-back 32 (s .base) (s .offset) (s .blocks) (s .sum) (omega (arith, g .base)) (omega arith) (omega arith) (omega (arith, g .sums))
+    (at-move 32 (omega arith) (at-right places sums front)) in
     let loop = loop-back (s .loopat) (s .offset) (g .looped) (omega arith) in
     let mode = mode-back (s .mode) in
     let last = flag-back (s .last) in
@@ -208,7 +209,23 @@ record-back k k′ s t room long g e a =
 -- the numbers with the mark of a finished stream
 abbrev marked : Fields → Fields
 marked s =
-    record { slot = s .slot; channels = s .channels; mode = s .mode; count = s .count; next = s .next; id = s .id; base = s .base; offset = s .offset; loopat = s .loopat; blocks = s .blocks; sum = s .sum; left = s .left; right = s .right; last = s .last; finished = true }
+    record {
+      slot = s .slot;
+      channels = s .channels;
+      mode = s .mode;
+      count = s .count;
+      next = s .next;
+      id = s .id;
+      base = s .base;
+      offset = s .offset;
+      loopat = s .loopat;
+      blocks = s .blocks;
+      sum = s .sum;
+      left = s .left;
+      right = s .right;
+      last = s .last;
+      finished = true;
+    }
 
 mark-back : (k : List ℕ) → loaderSize ≤ length k → fieldsIn (putAt k 84 (be32 1)) ≡ marked (fieldsIn k)
 unfolding fieldsIn
@@ -222,7 +239,23 @@ mark-back k room =
     let l : (at : ℕ) → at + 8 ≤ 84 → longAt k′ at ≡ longAt k at = λ at h. long-same k′ k 0 84 a long at (omega arith) h in
     let w : (at : ℕ) → at + 4 ≤ 84 → wordAt k′ at ≡ wordAt k at = λ at h. word-same k′ k 0 84 a long at (omega arith) h in
     let m : wordAt k′ 84 ≡ 1 = word-back 84 (omega arith) (put-there k 84 (be32 1) (omega arith)) in
-    rw (l 0 (omega arith), l 8 (omega arith), l 16 (omega arith), l 24 (omega arith), l 32 (omega arith), l 40 (omega arith), l 48 (omega arith), l 56 (omega arith), l 64 (omega arith), w 72 (omega arith), w 76 (omega arith), w 80 (omega arith), m, side-same k′ k from loaderSize b long leftAt (omega arith) (omega arith), side-same k′ k from loaderSize b long rightAt (omega arith) (omega arith))
+    rw (
+      l 0 (omega arith),
+      l 8 (omega arith),
+      l 16 (omega arith),
+      l 24 (omega arith),
+      l 32 (omega arith),
+      l 40 (omega arith),
+      l 48 (omega arith),
+      l 56 (omega arith),
+      l 64 (omega arith),
+      w 72 (omega arith),
+      w 76 (omega arith),
+      w 80 (omega arith),
+      m,
+      side-same k′ k from loaderSize b long leftAt (omega arith) (omega arith),
+      side-same k′ k from loaderSize b long rightAt (omega arith) (omega arith),
+    )
 
 finish-back : (k : List ℕ) → (streamIn k .slot ≡ 0 → ⊥) → (lent : ℕ) → finishRefusal (streamIn k .finished) (streamIn k .blocks) (streamIn k .last) lent ≡ 0
     → writerIn (putAt k 84 (be32 1)) ≡ afterFinish (writerIn k)

@@ -64,7 +64,8 @@ module _ (k : List ℕ) {k′ : List ℕ} (s : List ℕ) (count : ℕ) where
   unfolding fileKept
   both-channels h e = rw (eq-eqb count 2 h) e
 
-  pub one-channel : {k″ : List ℕ} → (count ≡ 2 → ⊥) → fileHeaderSize ≤ length s → openedSize ≤ length k → k′ ≡ putAt k 0 (take 72 s) → k″ ≡ putAt k′ 72 (replicate 56 0) → k″ ≡ putAt k 0 (fileKept s count)
+  pub one-channel : {k″ : List ℕ} → (count ≡ 2 → ⊥) → fileHeaderSize ≤ length s → openedSize ≤ length k → k′ ≡ putAt k 0 (take 72 s) → k″ ≡ putAt k′ 72 (replicate 56 0)
+      → k″ ≡ putAt k 0 (fileKept s count)
   unfolding fileKept
   one-channel h g r e f =
       let n : length (take 72 s) ≡ 72 = length-take-le 72 s (omega arith) in
@@ -74,7 +75,8 @@ module _ (k : List ℕ) {k′ : List ℕ} (s : List ℕ) (count : ℕ) where
 
 -- ---- The record
 
-pub opened-put : (k k1 k2 k3 k4 : List ℕ) {k5 : List ℕ} (s : List ℕ) (count n : ℕ) (start : LoopStart) (os : List ℕ) {number : ℕ} → n ≤ blockLimit → n ≤ length os → fileHeaderSize ≤ length s → openedSize ≤ length k
+pub opened-put : (k k1 k2 k3 k4 : List ℕ) {k5 : List ℕ} (s : List ℕ) (count n : ℕ) (start : LoopStart) (os : List ℕ) {number : ℕ} → n ≤ blockLimit → n ≤ length os → fileHeaderSize ≤ length s
+    → openedSize ≤ length k
     → k1 ≡ putAt k 0 (fileKept s count) → k2 ≡ putAt k1 fileHeaderSize (be32 (n % 4294967296)) → number ≡ loopNumber start → k3 ≡ putAt k2 132 (be32 number)
     → k4 ≡ putAt k3 offsetsAt (flatMap be32 (take n os)) → k5 ≡ putAt k4 (offsetsAt + 4 * n) (replicate (2048 - 4 * n) 0) → k5 ≡ putAt k 0 (openedParts s count n start os)
 unfolding openedParts offsetsKept
@@ -87,5 +89,6 @@ opened-put k k1 k2 k3 k4 {k5} s count n start os b t h g e1 e2 l e3 e4 e5 =
     let z : 2048 - 4 * n ≡ 4 * (blockLimit - n) = omega arith in
     let m3 : length k3 ≡ length k = ap length (u .is) ∙ putAt-length _ _ _ in
     let v : Put k3 offsetsAt (4 * n) (flatMap be32 (take n os)) k4 = record { size = long; is = e4 } in
-    let o = put-then v (replicate (4 * (blockLimit - n)) 0) (length-replicate {A = ℕ} (4 * (blockLimit - n)) 0) (e5 ∙ ap (λ (x : ℕ). putAt k4 (offsetsAt + 4 * n) (replicate x 0)) z) refl (omega arith) in
+    let o = put-then v (replicate (4 * (blockLimit - n)) 0) (length-replicate {A = ℕ} (4 * (blockLimit - n)) 0) (e5 ∙ ap (λ (x : ℕ). putAt k4 (offsetsAt + 4 * n) (replicate x 0)) z) refl
+    (omega arith) in
     put-then u (flatMap be32 (take n os) ++ replicate (4 * (blockLimit - n)) 0) (o .size) (o .is) refl (omega arith) .is

@@ -123,7 +123,8 @@ module _ {kept : List ℕ} {from to : ℕ} where
 
 -- ---- The record
 
-same-record : (q : HpsReader) {rate count blocks : ℕ} {cs : List Channel} {os : List ℕ} {start : LoopStart} → q .rate ≡ rate → q .count ≡ count → q .channels ≡ cs → q .blocks ≡ blocks → q .offsets ≡ os
+same-record : (q : HpsReader) {rate count blocks : ℕ} {cs : List Channel} {os : List ℕ} {start : LoopStart} → q .rate ≡ rate → q .count ≡ count → q .channels ≡ cs → q .blocks ≡ blocks
+    → q .offsets ≡ os
     → q .«loop_start» ≡ start → q ≡ record { rate = rate; count = count; channels = cs; blocks = blocks; offsets = os; «loop_start» = start }
 same-record q e1 e2 e3 e4 e5 e6 = rw (← e1, ← e2, ← e3, ← e4, ← e5, ← e6)
 
@@ -133,7 +134,14 @@ module _ (kept : List ℕ) (from to : ℕ) where
   atChannels a b =
       on a (λ n. noReader) (λ l.
       on b (λ n. noReader) (λ r.
-      record { rate = u32At kept 8; count = u32At kept 12; channels = l ∷ r ∷ []; blocks = u32At kept fileHeaderSize; offsets = offsetsIn kept from (lesser to (u32At kept fileHeaderSize)) blockLimit 0; «loop_start» = loopOf (u32At kept 132) }))
+      record {
+        rate = u32At kept 8;
+        count = u32At kept 12;
+        channels = l ∷ r ∷ [];
+        blocks = u32At kept fileHeaderSize;
+        offsets = offsetsIn kept from (lesser to (u32At kept fileHeaderSize)) blockLimit 0;
+        «loop_start» = loopOf (u32At kept 132);
+      }))
 
   pub too-few : length kept < openedSize → noReader ≡ partIn kept from to
   unfolding partIn

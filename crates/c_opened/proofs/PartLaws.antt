@@ -20,7 +20,14 @@ use Rattle.layout.specs.Refusals.{blockLimit}
 -- a record of bytes that hold one
 abbrev made : List ℕ → Channel → Channel → (from to : ℕ) → HpsReader
 made kept l r from to =
-    record { rate = u32At kept 8; count = u32At kept 12; channels = l ∷ r ∷ []; blocks = u32At kept fileHeaderSize; offsets = offsetsIn kept from (lesser to (u32At kept fileHeaderSize)) blockLimit 0; «loop_start» = loopOf (u32At kept 132) }
+    record {
+      rate = u32At kept 8;
+      count = u32At kept 12;
+      channels = l ∷ r ∷ [];
+      blocks = u32At kept fileHeaderSize;
+      offsets = offsetsIn kept from (lesser to (u32At kept fileHeaderSize)) blockLimit 0;
+      «loop_start» = loopOf (u32At kept 132);
+    }
 
 -- bytes hold no record or one, whichever part of it is asked for
 part-cases : {A : Type 0} (kept : List ℕ) → (((from to : ℕ) → partIn kept from to ≡ noReader) → A)

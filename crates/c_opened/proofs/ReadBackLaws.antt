@@ -14,7 +14,8 @@ use Rattle.layout.specs.Choice.{pick, _and_}
 use Rattle.layout.specs.Lists.{All}
 use Rattle.layout.specs.Puts.{putAt}
 use Rattle.layout.specs.Types.{Bytes}
-use Rattle.layout.specs.Records.{u16At, u32At, i16s, be16, be32, beZ16, contextAt, contextBytes, Read, field, formatOf, on, channelAt, channelBytes, readChannel, noChannel, headerAt, readHeader, fileHeaderSize, firstBlockOffset}
+use Rattle.layout.specs.Records.{u16At, u32At, i16s, be16, be32, beZ16, contextAt, contextBytes, Read, field, formatOf, on, channelAt, channelBytes}
+use Rattle.layout.specs.Records.{readChannel, noChannel, headerAt, readHeader, fileHeaderSize, firstBlockOffset}
 use Rattle.layout.specs.declared.Channel.{Channel}
 use Rattle.layout.specs.declared.DspFormat.{DspFormat}
 use Rattle.layout.specs.declared.BlockHeader.{BlockHeader}
@@ -78,7 +79,15 @@ module _ (s t : List ℕ) (from to : ℕ) (a : Agree s t from to) where
   channelAt-same : (at : ℕ) (f : DspFormat) → from ≤ at → at + 56 ≤ to → channelAt s at f ≡ channelAt t at f
   unfolding channelAt
   channelAt-same at f l h =
-      rw (u16-same at l (omega arith), u32-same (at + 4) (omega arith) (omega arith), u32-same (at + 8) (omega arith) (omega arith), u32-same (at + 12) (omega arith) (omega arith), i16s-same 16 (at + 16) (omega arith) (omega arith), u16-same (at + 48) (omega arith) (omega arith), context-same (at + 50) (omega arith) (omega arith))
+      rw (
+        u16-same at l (omega arith),
+        u32-same (at + 4) (omega arith) (omega arith),
+        u32-same (at + 8) (omega arith) (omega arith),
+        u32-same (at + 12) (omega arith) (omega arith),
+        i16s-same 16 (at + 16) (omega arith) (omega arith),
+        u16-same (at + 48) (omega arith) (omega arith),
+        context-same (at + 50) (omega arith) (omega arith),
+      )
 
   pub channel-same : (at : ℕ) → from ≤ at → at + 56 ≤ to → at + 56 ≤ length s → at + 56 ≤ length t → readChannel s at ≡ readChannel t at
   unfolding readChannel
@@ -187,7 +196,8 @@ none-bytes = refl
 
 -- the file header that is kept, and the record's parts after it
 module _ (s kept : List ℕ) (count : ℕ) (os : List ℕ) (start : LoopStart) (h : fileHeaderSize ≤ length s) (bs : List ℕ)
-    (is : bs ≡ ((fileKept s count ++ be32 (length os)) ++ be32 (loopNumber start)) ++ (flatMap be32 os ++ replicate (4 * (blockLimit - length os)) 0)) (room : openedSize ≤ length kept) (few : length os ≤ blockLimit) where
+    (is : bs ≡ ((fileKept s count ++ be32 (length os)) ++ be32 (loopNumber start)) ++ (flatMap be32 os ++ replicate (4 * (blockLimit - length os)) 0)) (room : openedSize ≤ length kept)
+    (few : length os ≤ blockLimit) where
   long : length bs ≡ openedSize
   long =
       ap length is ∙ simp (length-append, be32-length, length-replicate) (omega (arith, file-length s count h, offsets-length os))
@@ -277,7 +287,8 @@ channel-inside s c e =
     apart-read : (n : ℕ) (c : Channel) → Read.refused n ≡ Read.value c → ⊥
     apart-read n c e = let z : _≡_ {A = ℕ} 0 1 = cc in omega arith
 
-    formats : (q : Read DspFormat) → ((f : DspFormat) → field s fileHeaderSize (channelAt s 72 f) ≡ Read.refused 1) → on q Read.refused (λ f. field s fileHeaderSize (channelAt s 72 f)) ≡ Read.value c → ⊥
+    formats : (q : Read DspFormat) → ((f : DspFormat) → field s fileHeaderSize (channelAt s 72 f) ≡ Read.refused 1) → on q Read.refused (λ f. field s fileHeaderSize (channelAt s 72 f))
+        ≡ Read.value c → ⊥
     formats (Read.refused n) g e = apart-read n c e
     formats (Read.value f) g e = apart-read 1 c (sym (g f) ∙ e)
 

@@ -78,7 +78,14 @@ partIn kept from to =
     (pick (ltb blockLimit (u32At kept fileHeaderSize)) noReader
     (on (readChannel kept 16) (λ n. noReader) (λ l.
     on (readChannel kept 72) (λ n. noReader) (λ r.
-    record { rate = u32At kept 8; count = u32At kept 12; channels = l ∷ r ∷ []; blocks = u32At kept fileHeaderSize; offsets = offsetsIn kept from (lesser to (u32At kept fileHeaderSize)) blockLimit 0; «loop_start» = loopOf (u32At kept 132) })))))
+    record {
+      rate = u32At kept 8;
+      count = u32At kept 12;
+      channels = l ∷ r ∷ [];
+      blocks = u32At kept fileHeaderSize;
+      offsets = offsetsIn kept from (lesser to (u32At kept fileHeaderSize)) blockLimit 0;
+      «loop_start» = loopOf (u32At kept 132);
+    })))))
 
 -- The whole record that bytes stand for.
 abbrev pub readerIn : List ℕ → HpsReader

@@ -33,7 +33,15 @@ module _ (s t : List ℕ) (from to : ℕ) (a : Agree s t from to) (long : length
   pub side-same : (at : ℕ) → from ≤ at → at + sideSize ≤ to → sideIn s at ≡ sideIn t at
   unfolding sideIn
   side-same at l h =
-      rw (word-same at l (omega arith), word-same (at + 4) (omega arith) (omega arith), some-same 16 (at + 8) (omega arith) (omega arith), half-same (at + 40) (omega arith) (omega arith), half-same (at + 42) (omega arith) (omega arith), signed-same (at + 44) (omega arith) (omega arith), signed-same (at + 46) (omega arith) (omega arith))
+      rw (
+        word-same at l (omega arith),
+        word-same (at + 4) (omega arith) (omega arith),
+        some-same 16 (at + 8) (omega arith) (omega arith),
+        half-same (at + 40) (omega arith) (omega arith),
+        half-same (at + 42) (omega arith) (omega arith),
+        signed-same (at + 44) (omega arith) (omega arith),
+        signed-same (at + 46) (omega arith) (omega arith),
+      )
 
   cue-same : (at : ℕ) → from ≤ at → at + 24 ≤ to → cueIn s at ≡ cueIn t at
   unfolding cueIn

@@ -49,7 +49,13 @@ signedFrom s at (suc n) = signedAt s at ∷ signedFrom s (at + 2) n
 -- A side: rate, length, 16 coefficients, gain, context.
 unfoldable pub sideIn : List ℕ → (at : ℕ) → ChannelBlock
 sideIn s at =
-    record { rate = wordAt s at; length = wordAt s (at + 4); coefficients = signedFrom s (at + 8) 16; gain = halfAt s (at + 40); context = record { «predictor_and_scale» = halfAt s (at + 42); last = signedAt s (at + 44); oldest = signedAt s (at + 46) } }
+    record {
+      rate = wordAt s at;
+      length = wordAt s (at + 4);
+      coefficients = signedFrom s (at + 8) 16;
+      gain = halfAt s (at + 40);
+      context = record { «predictor_and_scale» = halfAt s (at + 42); last = signedAt s (at + 44); oldest = signedAt s (at + 46) };
+    }
 
 -- Whether a side of a channel of the push has too few bytes: the left one, and the right one in stereo.
 unfoldable pub sidesShort : (channels : ℕ) (left right : List ℕ) → Bool

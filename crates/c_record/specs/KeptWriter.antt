@@ -34,7 +34,23 @@ loopOffset n = pick (eqb n nowhere) LoopAt.Nowhere (LoopAt.At n)
 -- The numbers of the record as they stand there.
 unfoldable pub fieldsIn : List ℕ → Fields
 fieldsIn kept =
-    record { slot = longAt kept 0; channels = longAt kept 8; mode = modeOf (wordAt kept 72); count = longAt kept 16; next = longAt kept 24; id = wordAt kept 76; base = longAt kept 32; offset = longAt kept 40; loopat = loopOffset (longAt kept 64); blocks = longAt kept 48; sum = longAt kept 56; left = sideIn kept leftAt; right = sideIn kept rightAt; last = not (eqb (wordAt kept 80) 0); finished = not (eqb (wordAt kept 84) 0) }
+    record {
+      slot = longAt kept 0;
+      channels = longAt kept 8;
+      mode = modeOf (wordAt kept 72);
+      count = longAt kept 16;
+      next = longAt kept 24;
+      id = wordAt kept 76;
+      base = longAt kept 32;
+      offset = longAt kept 40;
+      loopat = loopOffset (longAt kept 64);
+      blocks = longAt kept 48;
+      sum = longAt kept 56;
+      left = sideIn kept leftAt;
+      right = sideIn kept rightAt;
+      last = not (eqb (wordAt kept 80) 0);
+      finished = not (eqb (wordAt kept 84) 0);
+    }
 
 -- Whether the places in slot and table are within their limits.
 unfoldable pub placesGood : (slot offset count next id : ℕ) → Bool

@@ -45,11 +45,13 @@ sides-put k k₁ l r room hl hr e₁ e₂ =
 -- ---- The bytes that are put
 
 module _ (k k₁ : List ℕ) (s : Fields) (is : k₁ ≡ putAt k 0 (numberBytes s)) where
-  pub record-put : {k₂ : List ℕ} → cuesAt ≤ length k → length (s .left .coefficients) ≡ 16 → length (s .right .coefficients) ≡ 16 → k₂ ≡ putAt k₁ leftAt (sideBytes (s .left) ++ sideBytes (s .right)) → k₂ ≡ putAt k 0 (recordBytes s)
+  pub record-put : {k₂ : List ℕ} → cuesAt ≤ length k → length (s .left .coefficients) ≡ 16 → length (s .right .coefficients) ≡ 16
+      → k₂ ≡ putAt k₁ leftAt (sideBytes (s .left) ++ sideBytes (s .right)) → k₂ ≡ putAt k 0 (recordBytes s)
   unfolding recordBytes
   record-put room l r e =
       let p : Put k 0 leftAt (numberBytes s) k₁ = record { size = numbers-length s; is = is } in
-      let n : length (sideBytes (s .left) ++ sideBytes (s .right)) ≡ 96 = length-append (sideBytes (s .left)) (sideBytes (s .right)) ∙ omega (arith, side-length (s .left) l, side-length (s .right) r) in
+      let n : length (sideBytes (s .left) ++ sideBytes (s .right)) ≡ 96 = length-append (sideBytes (s .left)) (sideBytes (s .right))
+      ∙ omega (arith, side-length (s .left) l, side-length (s .right) r) in
       put-then p (sideBytes (s .left) ++ sideBytes (s .right)) n e refl (omega arith) .is
 
   pub first-put : {k₂ : List ℕ} → s .blocks ≡ 1 → k₂ ≡ putAt k 0 (recordBytes s) → k₂ ≡ putAt k 0 (pushedBytes s)

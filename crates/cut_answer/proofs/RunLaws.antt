@@ -98,12 +98,14 @@ module _ {start first : List ℕ} {ws : List Write} {from total : ℕ} {slot : L
         }
 
 -- The writes that are logged are those of the first places.
-pub to-log : (j : WriteLog) (logged : List ℕ) {start first : List ℕ} {from total : ℕ} {lines : List ℕ} {next : ℕ} {slot : List ℕ} → ((s : List ℕ) → start ≡ slotAt s (writesIn (take (j .count) (j .places)) logged) from → first ≡ start → RunEnds s (writesIn (take (j .count) (j .places)) logged) from total lines next slot)
+pub to-log : (j : WriteLog) (logged : List ℕ) {start first : List ℕ} {from total : ℕ} {lines : List ℕ} {next : ℕ} {slot : List ℕ}
+    → ((s : List ℕ) → start ≡ slotAt s (writesIn (take (j .count) (j .places)) logged) from → first ≡ start → RunEnds s (writesIn (take (j .count) (j .places)) logged) from total lines next slot)
     → (s : List ℕ) → start ≡ slotAt s (loggedWrites j logged) from → first ≡ start → RunEnds s (loggedWrites j logged) from total lines next slot
 unfolding loggedWrites
 to-log j logged h = h
 
-pub slot-log : (j : WriteLog) (logged : List ℕ) {earlier slot after : List ℕ} (m : ℕ) {ws : List Write} → slot ≡ earlier → loggedWrites j logged ≡ ws → after ≡ slotAt slot (writesIn (take (j .count) (j .places)) logged) m → after ≡ slotAt earlier ws m
+pub slot-log : (j : WriteLog) (logged : List ℕ) {earlier slot after : List ℕ} (m : ℕ) {ws : List Write} → slot ≡ earlier → loggedWrites j logged ≡ ws
+    → after ≡ slotAt slot (writesIn (take (j .count) (j .places)) logged) m → after ≡ slotAt earlier ws m
 unfolding loggedWrites
 slot-log j logged m e w a = a ∙ rw (e, w)
 
@@ -128,12 +130,14 @@ showing-none {earlier} {slot} {first} {ws} e f =
     }
 
 -- One run of a script's moments.
-pub is-run : {earlier : List ℕ} (text : List ℕ) {lines : List ℕ} {ws : List Write} {from total next : ℕ} {slot : List ℕ} → ws ≡ scriptWrites (length earlier) text → RunEnds earlier ws from total lines next slot → MomentRun earlier text from (next - 1) lines
+pub is-run : {earlier : List ℕ} (text : List ℕ) {lines : List ℕ} {ws : List Write} {from total next : ℕ} {slot : List ℕ} → ws ≡ scriptWrites (length earlier) text
+    → RunEnds earlier ws from total lines next slot → MomentRun earlier text from (next - 1) lines
 unfolding MomentRun
 is-run text w r k a b = rw (← w) (r .same k a (omega (arith, r .later)))
 
 module _ {earlier : List ℕ} {ws : List Write} {total : ℕ} {slot first : List ℕ} {from : ℕ} (g : Showing earlier ws total slot first from) where
-  pub showing-more : {lines after copy : List ℕ} {next : ℕ} → length after ≡ length slot → RunEnds earlier ws from total lines next after → copy ≡ putAt first 0 after → Showing earlier ws total after copy next
+  pub showing-more : {lines after copy : List ℕ} {next : ℕ} → length after ≡ length slot → RunEnds earlier ws from total lines next after → copy ≡ putAt first 0 after
+      → Showing earlier ws total after copy next
   showing-more {lines} {after} {copy} {next} n r e =
       let m : length first ≡ length after = g .copy ∙ sym (g .long) ∙ sym n in
       record {

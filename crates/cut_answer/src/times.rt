@@ -35,7 +35,8 @@ fn print_run(fd: i32, earlier: &[u8], text: &[u8], from: usize, last: usize, slo
 // Where a run ends that starts at a moment; the other buffer has the slot at its start. The slot goes on to the moment after it.
 fn run_end(slot: &mut [u8], first: &[u8], j: WriteLog, logged: &[u8], from: usize) -> usize
     requires { ⌜ Listed j (now logged) × (from ≤ j .total) ⌝ }
-    ensures { λ r. ⌜ ((s : List ℕ) → now (slot .entry) ≡ slotAt s (loggedWrites j (now (logged .entry))) from → now (first .entry) ≡ now (slot .entry) → RunEnds s (loggedWrites j (now (logged .entry))) from (j .total) (listing (now (first .entry))) r (now (slot .exit))) ⌝ }
+    ensures { λ r. ⌜ ((s : List ℕ) → now (slot .entry) ≡ slotAt s (loggedWrites j (now (logged .entry))) from → now (first .entry) ≡ now (slot .entry)
+        → RunEnds s (loggedWrites j (now (logged .entry))) from (j .total) (listing (now (first .entry))) r (now (slot .exit))) ⌝ }
 {
     let places = j.places;
     let count = j.count;

@@ -12,7 +12,8 @@ use Rattle.layout.specs.Puts.{putAt}
 use Rattle.layout.proofs.Cases.{by-cases, apart}
 use Rattle.writer.specs.WritesAndCuttingRule.{Write, write, placeOf, handed, writesIn, mostWrites}
 use Rattle.writer.specs.Loading.{Push, refused, accepted, beginRefusal, beginWrite, pushRefusal, finishRefusal, blockSize, startWrite, restWrite, markWrite}
-use Rattle.writer.specs.Calls.{Handed, handedWrites, replyFor, placesIn, Outcome, outcome, writes, called, blank, emptyOf, beginOf, takenOf, stateIn, nextFor, pushBytes, afterPush, pushOf, headerOf, afterFinish, finishOf, answerOf, Good}
+use Rattle.writer.specs.Calls.{Handed, handedWrites, replyFor, placesIn, Outcome, outcome, writes, called, blank, emptyOf, beginOf, takenOf, stateIn, nextFor}
+use Rattle.writer.specs.Calls.{pushBytes, afterPush, pushOf, headerOf, afterFinish, finishOf, answerOf, Good}
 use Rattle.writer.specs.declared.Looping.{Looping}
 use Rattle.writer.specs.declared.HpsWriter.{HpsWriter}
 use Rattle.writer.specs.declared.Called.{Called}
@@ -38,7 +39,8 @@ unfolding sizes sum
 none-room l = record { few = omega (arith, l .few); handed = omega arith; space = omega (arith, l .inside) }
 
 -- These writes, where there is room for so many.
-some-room : {j : WriteLog} {logged : List ℕ} (lent : List ℕ) (ws : List Write) → j .count + length ws ≤ mostWrites → j .total + length (handed ws) ≤ length logged → Room j logged (handed ws ++ drop (length (handed ws)) lent) (map placeOf ws)
+some-room : {j : WriteLog} {logged : List ℕ} (lent : List ℕ) (ws : List Write) → j .count + length ws ≤ mostWrites → j .total + length (handed ws) ≤ length logged
+    → Room j logged (handed ws ++ drop (length (handed ws)) lent) (map placeOf ws)
 some-room lent ws few space =
     let n = sizes-are ws in
     record {

@@ -84,7 +84,8 @@ fn push_with(
 ) -> Made
     requires { ⌜ Good w ⌝ }
     ensures { λ q. ⌜ q ≡ madeBy (pushOf w (pushArgs channels left right (now («left_data» .entry)) (now («right_data» .entry)) last) (now (lent .entry))) (logging j (now (logged .entry))) ⌝ }
-    ensures { λ q. ⌜ now (logged .exit) ≡ logAfter (pushOf w (pushArgs channels left right (now («left_data» .entry)) (now («right_data» .entry)) last) (now (lent .entry))) (logging j (now (logged .entry))) .bytes ⌝ }
+    ensures { λ q. ⌜ now (logged .exit)
+        ≡ logAfter (pushOf w (pushArgs channels left right (now («left_data» .entry)) (now («right_data» .entry)) last) (now (lent .entry))) (logging j (now (logged .entry))) .bytes ⌝ }
     ensures { λ q. ⌜ Good (q .writer) ⌝ }
 {
     let call = push(w, channels, left, right, left_data, right_data, last, lent);
@@ -109,7 +110,8 @@ pub fn push_logged(
 ) -> Made
     requires { ⌜ Good w ⌝ }
     ensures { λ q. ⌜ q ≡ madeBy (pushOf w (pushArgs channels left right (now («left_data» .entry)) (now («right_data» .entry)) last) (lentOf room)) (logging j (now (logged .entry))) ⌝ }
-    ensures { λ q. ⌜ now (logged .exit) ≡ logAfter (pushOf w (pushArgs channels left right (now («left_data» .entry)) (now («right_data» .entry)) last) (lentOf room)) (logging j (now (logged .entry))) .bytes ⌝ }
+    ensures { λ q. ⌜ now (logged .exit)
+        ≡ logAfter (pushOf w (pushArgs channels left right (now («left_data» .entry)) (now («right_data» .entry)) last) (lentOf room)) (logging j (now (logged .entry))) .bytes ⌝ }
     ensures { λ q. ⌜ Good (q .writer) ⌝ }
 {
     let mut lent = zeros();

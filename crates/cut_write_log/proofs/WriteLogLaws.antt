@@ -128,7 +128,8 @@ pub none-listed : (logged : List ℕ) → Listed emptyLog logged
 unfolding sizes sum
 none-listed logged = record { few = omega arith; room = length-replicate mostWrites noPlace; bytes = refl; inside = omega arith }
 
-module _ {j : WriteLog} {logged : List ℕ} (l : Listed j logged) (p : Place) (bs : List ℕ) (few : j .count < mostWrites) (size : length bs ≡ p .length) (room : j .total + p .length ≤ length logged) where
+module _ {j : WriteLog} {logged : List ℕ} (l : Listed j logged) (p : Place) (bs : List ℕ) (few : j .count < mostWrites) (size : length bs ≡ p .length)
+    (room : j .total + p .length ≤ length logged) where
   former : List Place
   former = take (j .count) (j .places)
 

@@ -67,7 +67,8 @@ module _ (i : ℕ) (st en le sc : ℕ) (la ol : ℤ) (q : BlockCall) where
   block-ended BlockAnswer.ended e f = (refl, rw e)
   block-ended (BlockAnswer.gave rate g cs gain len c start bytes j) e f = let k = rw e at f in apart k (λ x. cc)
 
-  pub block-given : {x y : ℤ} → x ≡ q .context .last → y ≡ q .context .oldest → (a : BlockAnswer) → q ≡ blockCall i a → q .reply ≡ BlockReply.Block → (0 ≡ blockNumber a) × (given x y ≡ blockLent before a)
+  pub block-given : {x y : ℤ} → x ≡ q .context .last → y ≡ q .context .oldest → (a : BlockAnswer) → q ≡ blockCall i a → q .reply ≡ BlockReply.Block → (0 ≡ blockNumber a)
+      × (given x y ≡ blockLent before a)
   block-given m n (BlockAnswer.refused k) e f = let k = rw e at f in apart k (λ x. cc)
   block-given m n (BlockAnswer.refusedAt k j) e f = let k = rw e at f in apart k (λ x. cc)
   block-given m n BlockAnswer.ended e f = let k = rw e at f in apart k (λ x. cc)
@@ -84,11 +85,13 @@ module _ (s kept : List ℕ) (i : ℕ) (r : HpsReader) (e : r ≡ partIn kept i 
   pub sum-without : (before : ℕ) → r .count ≡ 0 → before ≡ addressesAfter (readerIn kept) before (dataRemaining s (readerIn kept) i)
   sum-without before z = no-sum (readerIn kept) before (dataRemaining s (readerIn kept) i) (sym (count-is kept i blockLimit r e) ∙ z)
 
-  pub sum-refused : (before n : ℕ) (q : RemainingReply) (a : Remaining) → q ≡ remainingReply a → q ≡ RemainingReply.Refused n → (n ≡ remainingNumber a) × (before ≡ addressesAfter (readerIn kept) before a)
+  pub sum-refused : (before n : ℕ) (q : RemainingReply) (a : Remaining) → q ≡ remainingReply a → q ≡ RemainingReply.Refused n → (n ≡ remainingNumber a)
+      × (before ≡ addressesAfter (readerIn kept) before a)
   sum-refused before n q (Remaining.refused m) f g = (cc, refl)
   sum-refused before n q (Remaining.addresses m) f g = absurd (let z : _≡_ {A = ℕ} 0 1 = cc in omega arith)
 
-  pub sum-given : (before n : ℕ) (q : RemainingReply) (a : Remaining) → (r .count ≡ 0 → ⊥) → q ≡ remainingReply a → q ≡ RemainingReply.Addresses n → (0 ≡ remainingNumber a) × (n ≡ addressesAfter (readerIn kept) before a)
+  pub sum-given : (before n : ℕ) (q : RemainingReply) (a : Remaining) → (r .count ≡ 0 → ⊥) → q ≡ remainingReply a → q ≡ RemainingReply.Addresses n → (0 ≡ remainingNumber a)
+      × (n ≡ addressesAfter (readerIn kept) before a)
   sum-given before n q (Remaining.refused m) z f g = absurd (let z : _≡_ {A = ℕ} 0 1 = cc in omega arith)
   sum-given before n q (Remaining.addresses m) z f g =
       let k : n ≡ m = cc in

@@ -77,8 +77,24 @@ pub extern "C" fn hps_block(
 ) -> u32
     ensures { λ r. ⌜ r ≡ onRecord (readerIn (now (kept .entry))) (blockNumber (blockRead (now (slot .entry)) (readerIn (now (kept .entry))) channel (now (position .entry)))) ⌝ }
     ensures { λ _. ⌜ _≡_ {A = BlockLent}
-        (record { position = now (position .exit); start = now (start .exit); end = now (end .exit); addresses = now (length .exit); scale = now (context .exit); last = now (last .exit); oldest = now (oldest .exit) })
-        (blockLent (record { position = now (position .entry); start = now (start .entry); end = now (end .entry); addresses = now (length .entry); scale = now (context .entry); last = now (last .entry); oldest = now (oldest .entry) })
+        (record {
+          position = now (position .exit);
+          start = now (start .exit);
+          end = now (end .exit);
+          addresses = now (length .exit);
+          scale = now (context .exit);
+          last = now (last .exit);
+          oldest = now (oldest .exit);
+        })
+        (blockLent (record {
+          position = now (position .entry);
+          start = now (start .entry);
+          end = now (end .entry);
+          addresses = now (length .entry);
+          scale = now (context .entry);
+          last = now (last .entry);
+          oldest = now (oldest .entry);
+        })
         (blockRead (now (slot .entry)) (readerIn (now (kept .entry))) channel (now (position .entry)))) ⌝ }
 {
     let at = *position;

@@ -18,7 +18,10 @@ use Rattle.writer.specs.declared.HpsWriter.{HpsWriter}
 use Rattle.power_cut.specs.LoadingBook.{Book, begun, endOfBlocks, numberDue, bookAnswer, bookAfter, bookAnswers, bookRun, blockOf, remainingOf, cuesOf}
 use Rattle.power_cut.specs.FinishedFile.{fileBytes}
 use Rattle.power_cut.specs.PowerCut.{opens, step, recordsOf, AfterCut, Run, ReadsAs, PowerCut, FinishedFile, EstimateBound}
-use Rattle.power_cut.specs.Consequences.{WholeList, begunOf, bookUpTo, bookOf, listWrites, CutOf, answersTo, Finished, SameLength, BeforeBegin, NotFinished, WriteToCome, NoOtherAnswer, MostChannels, Begins, BegunGood, EachGood, OneAnswerEach, EachAnswer, FinishedLength, FinishedOpens, EachBlockBack, NoBlockBack, EachRemaining, EachCueBack, CuesEnd, EachByte, EstimateEnough}
+use Rattle.power_cut.specs.Consequences.{WholeList, begunOf, bookUpTo, bookOf, listWrites, CutOf, answersTo, Finished, SameLength, BeforeBegin}
+use Rattle.power_cut.specs.Consequences.{NotFinished, WriteToCome, NoOtherAnswer, MostChannels, Begins, BegunGood, EachGood, OneAnswerEach, EachAnswer}
+use Rattle.power_cut.specs.Consequences.{FinishedLength, FinishedOpens, EachBlockBack, NoBlockBack, EachRemaining, EachCueBack, CuesEnd, EachByte}
+use Rattle.power_cut.specs.Consequences.{EstimateEnough}
 use Rattle.power_cut.proofs.CutLaws.{taken-few}
 
 -- ---- Lists

@@ -43,7 +43,8 @@ filled-most : (n : ℕ) → P (8 * n) ≤ alignment * n
 unfolding P
 filled-most n = omega arith
 
-size-is : {ch : ℕ} (k : Block) → (ch ≡ 1) ⊎ (ch ≡ 2) → BlockOk ch k → dataSize (k .push .channels) (length (k .push .left .bytes)) (length (k .push .right .bytes)) ≡ ch * P (adpcmBytes (lengthOf (k .push)))
+size-is : {ch : ℕ} (k : Block) → (ch ≡ 1) ⊎ (ch ≡ 2) → BlockOk ch k → dataSize (k .push .channels) (length (k .push .left .bytes)) (length (k .push .right .bytes))
+    ≡ ch * P (adpcmBytes (lengthOf (k .push)))
 unfolding dataSize
 size-is {ch} k c ok =
     ⊎-elim

@@ -13,7 +13,8 @@ use Rattle.reader.specs.OpeningAndReading.{BlockAnswer, refused, ended, gave}
 use Rattle.reader.specs.CuesReadBack.{CueAnswer}
 use Rattle.reader.specs.declared.LoopStart.{LoopStart}
 use Rattle.reader.specs.declared.HpsReader.{HpsReader}
-use Rattle.writer.specs.Loading.{Side, Push, Call, Answer, answerBy, byMode, loops, has, insert, cueRefusal, lengthOf, points, anyLoop, blockSize, PushState, pushRefusal, finishRefusal, noBlock, filled, second}
+use Rattle.writer.specs.Loading.{Side, Push, Call, Answer, answerBy, byMode, loops, has, insert, cueRefusal, lengthOf, points, anyLoop, blockSize, PushState}
+use Rattle.writer.specs.Loading.{pushRefusal, finishRefusal, noBlock, filled, second}
 use Rattle.writer.specs.declared.Looping.{Looping}
 use Rattle.writer.specs.declared.Cue.{Cue}
 use Rattle.writer.specs.declared.ChannelBlock.{ChannelBlock}
@@ -106,7 +107,15 @@ withFinish b =
 -- What push's order asks of the book.
 abbrev pub stateOf : Book → PushState
 stateOf b =
-    record { slotLength = b .slotLength; channels = b .channels; blocks = length (b .blocks); last = lastPushed (b .blocks); offset = endOfBlocks (b .blocks); left = firstLeft (b .blocks); right = firstRight (b .blocks) }
+    record {
+      slotLength = b .slotLength;
+      channels = b .channels;
+      blocks = length (b .blocks);
+      last = lastPushed (b .blocks);
+      offset = endOfBlocks (b .blocks);
+      left = firstLeft (b .blocks);
+      right = firstRight (b .blocks);
+    }
 
 -- "A call gets the first number due in its order by its arguments and what the book keeps"
 abbrev pub numberDue : Book → Call → ℕ
@@ -170,7 +179,14 @@ loopStart b = pick (ltb (loopBlock b) (length (b .blocks))) (LoopStart.Block (lo
 -- "opening, the first block's rate, the channel count, the channels as finish fills them, count and offsets of the blocks (zeros beyond), the loop block's index or none"
 unfoldable pub openingOf : Book → HpsReader
 openingOf b =
-    record { rate = firstLeft (b .blocks) .rate; count = b .channels; channels = filled (lengthsOf (b .blocks)) (firstLeft (b .blocks)) ∷ second (b .channels) (lengthsOf (b .blocks)) (firstRight (b .blocks)) ∷ []; blocks = length (b .blocks); offsets = offsetsOf (b .blocks) ++ replicate (blockLimit - length (b .blocks)) 0; «loop_start» = loopStart b }
+    record {
+      rate = firstLeft (b .blocks) .rate;
+      count = b .channels;
+      channels = filled (lengthsOf (b .blocks)) (firstLeft (b .blocks)) ∷ second (b .channels) (lengthsOf (b .blocks)) (firstRight (b .blocks)) ∷ [];
+      blocks = length (b .blocks);
+      offsets = offsetsOf (b .blocks) ++ replicate (blockLimit - length (b .blocks)) 0;
+      «loop_start» = loopStart b;
+    }
 
 -- "in that channel"
 abbrev pub sideOf : Push → (channel : ℕ) → Side

@@ -13,11 +13,13 @@ use borrow.Author.Tests.{leb-false, eqb-true, not-false}
 use Rattle.layout.specs.Choice.{_or_}
 use Rattle.layout.specs.Lists.{All, none, more, filter, any, sum, same, firstIndex}
 use Rattle.layout.specs.Types.{Bytes, Slice, ContextFits}
-use Rattle.layout.specs.Records.{be16, be32, beZ16, P, contextBytes, channelBytes, noChannel, fileHeaderBytes, headerBytes, cueBytes, fillers, padded, sizeOf, blockHeader, blockBytes, adpcmBytes, adpcmSamples}
+use Rattle.layout.specs.Records.{be16, be32, beZ16, P, contextBytes, channelBytes, noChannel, fileHeaderBytes, headerBytes, cueBytes, fillers, padded, sizeOf}
+use Rattle.layout.specs.Records.{blockHeader, blockBytes, adpcmBytes, adpcmSamples}
 use Rattle.layout.specs.Refusals.{firstDue}
 use Rattle.layout.specs.declared.FrameContext.{FrameContext}
 use Rattle.layout.proofs.Cases.{or-false}
-use Rattle.writer.specs.Loading.{Side, Call, cue, push, finish, accepted, rangeLength, lengthOf, lexLt, before, has, insert, points, pointsOf, bytesOf, sameZ, dataSize, stateDue, rateDue, lengthDue, dataDue, coefficientsDue, earlyDue, roomDue, pushOrder, filled, second, headerFor}
+use Rattle.writer.specs.Loading.{Side, Call, cue, push, finish, accepted, rangeLength, lengthOf, lexLt, before, has, insert, points, pointsOf, bytesOf, sameZ}
+use Rattle.writer.specs.Loading.{dataSize, stateDue, rateDue, lengthDue, dataDue, coefficientsDue, earlyDue, roomDue, pushOrder, filled, second, headerFor}
 use Rattle.writer.specs.Typed.{TypedBlock, TypedSide, Typed}
 use Rattle.writer.specs.Calls.{beginOf, answerOf}
 use Rattle.writer.specs.declared.Looping.the-variants.{Auto}
@@ -127,7 +129,9 @@ record Computes (n ch : ℕ) (cs : List Call) (bytes lengths : List ℕ) (writte
   cues : points (bookRun (begun n ch Auto) cs .cues) ≡ written
 
 computes : Computes 300 1 worked file (16 ∷ []) 1 × Computes 420 2 recorded files.stereo (16 ∷ 16 ∷ []) 7
-unfolding filter any sum flatMap same firstIndex be16 be32 beZ16 P contextBytes channelBytes noChannel fileHeaderBytes headerBytes cueBytes fillers padded sizeOf blockHeader blockBytes adpcmBytes adpcmSamples firstDue lexLt before has insert points pointsOf bytesOf sameZ dataSize stateDue rateDue lengthDue dataDue coefficientsDue earlyDue roomDue pushOrder filled second headerFor beginOf baseOf endOfBlocks lastPushed takes enters bookRun loopBlock nextOf blocksBytes fileHeader fileBytes
+unfolding filter any sum flatMap same firstIndex be16 be32 beZ16 P contextBytes channelBytes noChannel fileHeaderBytes headerBytes cueBytes fillers padded sizeOf blockHeader blockBytes
+    adpcmBytes adpcmSamples firstDue lexLt before has insert points pointsOf bytesOf sameZ dataSize stateDue rateDue lengthDue dataDue coefficientsDue earlyDue roomDue pushOrder filled
+    second headerFor beginOf baseOf endOfBlocks lastPushed takes enters bookRun loopBlock nextOf blocksBytes fileHeader fileBytes
 computes = (
   record { begins = refl; typed = refl; done = refl; file = refl; end = refl; blocks = refl; cues = refl },
   record { begins = refl; typed = refl; done = refl; file = refl; end = refl; blocks = refl; cues = refl },

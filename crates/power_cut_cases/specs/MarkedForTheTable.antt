@@ -172,7 +172,12 @@ pair rate n bs zs =
 
 -- A mono push at this rate.
 abbrev rated : ℕ → Push
-rated n = record { channels = 1; left = record { block = record { rate = n; length = 16; coefficients = replicate 16 (pos 0); gain = 0; context = zeroContext }; bytes = eight }; right = side 0 []; last = false }
+rated n = record {
+  channels = 1;
+  left = record { block = record { rate = n; length = 16; coefficients = replicate 16 (pos 0); gain = 0; context = zeroContext }; bytes = eight };
+  right = side 0 [];
+  last = false;
+}
 
 -- A context.
 abbrev ctx : ℕ → ℤ → ℤ → FrameContext
@@ -185,7 +190,12 @@ coded zs = record { channels = 1; left = record { block = record { rate = 32000;
 -- A mono push whose right side is of another rate, length and data.
 abbrev oddRight : Push
 oddRight =
-    record { channels = 1; left = side 16 eight; right = record { block = record { rate = 5; length = 77; coefficients = replicate 16 (negsuc 3); gain = 9; context = ctx 1 (pos 2) (negsuc 5) }; bytes = 1 ∷ 2 ∷ [] }; last = true }
+    record {
+      channels = 1;
+      left = side 16 eight;
+      right = record { block = record { rate = 5; length = 77; coefficients = replicate 16 (negsuc 3); gain = 9; context = ctx 1 (pos 2) (negsuc 5) }; bytes = 1 ∷ 2 ∷ [] };
+      last = true;
+    }
 
 -- A book with one stereo block in a slot of 256 bytes.
 abbrev one : Book
@@ -202,18 +212,48 @@ many n =
 
 -- The left side of the recorded stereo file, with this gain, context and data.
 abbrev leftSide : (gain : ℕ) → FrameContext → List ℕ → Side
-leftSide g c bs = record { block = record { rate = 32000; length = 16; coefficients = (negsuc 0 ∷ pos 2 ∷ negsuc 2 ∷ pos 4 ∷ negsuc 4 ∷ pos 6 ∷ negsuc 6 ∷ pos 8 ∷ negsuc 8 ∷ pos 10 ∷ negsuc 10 ∷ pos 12 ∷ negsuc 12 ∷ pos 14 ∷ negsuc 14 ∷ negsuc 15 ∷ []); gain = g; context = c }; bytes = bs }
+leftSide g c bs = record {
+  block = record {
+    rate = 32000;
+    length = 16;
+    coefficients = (negsuc 0 ∷ pos 2 ∷ negsuc 2 ∷ pos 4 ∷ negsuc 4 ∷ pos 6 ∷ negsuc 6 ∷ pos 8 ∷ negsuc 8 ∷ pos 10 ∷ negsuc 10 ∷ pos 12 ∷ negsuc 12 ∷ pos 14 ∷ negsuc 14 ∷ negsuc 15 ∷ []);
+    gain = g;
+    context = c;
+  };
+  bytes = bs;
+}
 
 -- The right side.
 abbrev rightSide : (gain : ℕ) → FrameContext → List ℕ → Side
-rightSide g c bs = record { block = record { rate = 32000; length = 16; coefficients = (negsuc 32767 ∷ pos 32767 ∷ pos 256 ∷ negsuc 255 ∷ pos 1000 ∷ negsuc 999 ∷ pos 17 ∷ negsuc 16 ∷ pos 12345 ∷ negsuc 12344 ∷ pos 0 ∷ pos 1 ∷ negsuc 1 ∷ pos 300 ∷ negsuc 299 ∷ pos 255 ∷ []); gain = g; context = c }; bytes = bs }
+rightSide g c bs = record {
+  block = record {
+    rate = 32000;
+    length = 16;
+    coefficients = (negsuc 32767 ∷ pos 32767 ∷ pos 256 ∷ negsuc 255 ∷ pos 1000 ∷ negsuc 999 ∷ pos 17 ∷ negsuc 16 ∷ pos 12345 ∷ negsuc 12344 ∷ pos 0 ∷ pos 1 ∷ negsuc 1 ∷ pos 300 ∷ negsuc 299
+        ∷ pos 255 ∷ []);
+    gain = g;
+    context = c;
+  };
+  bytes = bs;
+}
 
 -- The calls behind the recorded stereo file.
 abbrev pub recorded : List Call
 recorded =
-    Call.cue (at 3 (Range 7) 1) ∷ Call.cue (at 20 Loop 2) ∷ Call.cue (at 1 Point 3) ∷ Call.cue (at 2 Point 4) ∷ Call.cue (at 4 Point 5) ∷ Call.cue (at 5 Point 6) ∷ Call.cue (at 6 Point 7) ∷ Call.cue (at 15 Point 8)
-    ∷ Call.push (record { channels = 2; left = leftSide 258 (ctx 17 (negsuc 1) (pos 300)) (1 ∷ 18 ∷ 35 ∷ 52 ∷ 69 ∷ 86 ∷ 103 ∷ 120 ∷ []); right = rightSide 772 (ctx 33 (pos 400) (negsuc 4)) (137 ∷ 154 ∷ 171 ∷ 188 ∷ 205 ∷ 222 ∷ 239 ∷ 240 ∷ []); last = false }) (replicate 200 9)
-    ∷ Call.push (record { channels = 2; left = leftSide 1286 (ctx 50 (negsuc 699) (negsuc 7)) (15 ∷ 30 ∷ 45 ∷ 60 ∷ 75 ∷ 90 ∷ 105 ∷ 126 ∷ []); right = rightSide 1800 (ctx 67 (pos 32767) (negsuc 32767)) (135 ∷ 150 ∷ 165 ∷ 180 ∷ 195 ∷ 210 ∷ 225 ∷ 255 ∷ []); last = true }) (replicate 200 9)
+    Call.cue (at 3 (Range 7) 1) ∷ Call.cue (at 20 Loop 2) ∷ Call.cue (at 1 Point 3) ∷ Call.cue (at 2 Point 4) ∷ Call.cue (at 4 Point 5) ∷ Call.cue (at 5 Point 6) ∷ Call.cue (at 6 Point 7)
+    ∷ Call.cue (at 15 Point 8)
+    ∷ Call.push (record {
+      channels = 2;
+      left = leftSide 258 (ctx 17 (negsuc 1) (pos 300)) (1 ∷ 18 ∷ 35 ∷ 52 ∷ 69 ∷ 86 ∷ 103 ∷ 120 ∷ []);
+      right = rightSide 772 (ctx 33 (pos 400) (negsuc 4)) (137 ∷ 154 ∷ 171 ∷ 188 ∷ 205 ∷ 222 ∷ 239 ∷ 240 ∷ []);
+      last = false;
+    }) (replicate 200 9)
+    ∷ Call.push (record {
+      channels = 2;
+      left = leftSide 1286 (ctx 50 (negsuc 699) (negsuc 7)) (15 ∷ 30 ∷ 45 ∷ 60 ∷ 75 ∷ 90 ∷ 105 ∷ 126 ∷ []);
+      right = rightSide 1800 (ctx 67 (pos 32767) (negsuc 32767)) (135 ∷ 150 ∷ 165 ∷ 180 ∷ 195 ∷ 210 ∷ 225 ∷ 255 ∷ []);
+      last = true;
+    }) (replicate 200 9)
     ∷ Call.finish (replicate 128 9) ∷ []
 
 -- The book after them.
@@ -280,7 +320,8 @@ table =
     -- "Index -1 at base 14 gives 13, at base 0 gives 18,446,744,073,709,551,615."
     ∷ case (cue (pointOf 14 (record { «sample_index» = negsuc 0; id = 1 })) ++ cue (nthCue negative reader (firstCursor reader) 1)) (1 ∷ 13 ∷ 1 ∷ 18446744073709551615 ∷ [])
     -- "Count bytes 0 0 1 0 give 3."; a format of 1 gives 4, a space of 33 gives 2, 191 and 7 bytes give 1
-    ∷ case (head (opening (fileWith (0 ∷ 0 ∷ 1 ∷ 0 ∷ []) (0 ∷ 0 ∷ 0 ∷ 5 ∷ []))) ++ head (opening (take 18 file ++ (0 ∷ 1 ∷ []))) ++ head (opening (33 ∷ drop 1 file)) ++ head (opening (take 191 file)) ++ head (opening (take 7 file)))
+    ∷ case (head (opening (fileWith (0 ∷ 0 ∷ 1 ∷ 0 ∷ []) (0 ∷ 0 ∷ 0 ∷ 5 ∷ []))) ++ head (opening (take 18 file ++ (0 ∷ 1 ∷ []))) ++ head (opening (33 ∷ drop 1 file))
+    ++ head (opening (take 191 file)) ++ head (opening (take 7 file)))
     (stop 3 ∷ stop 4 ∷ stop 2 ∷ stop 1 ∷ stop 1 ∷ [])
     -- "Both channels' formats are checked, also in mono."; a looping field of 512 is true, and mono's second channel is zero in the record whatever the slot has there
     ∷ case (head (opening (take 74 file ++ (0 ∷ 1 ∷ []))) ++ head (opening (take 75 file))) (stop 4 ∷ stop 1 ∷ [])
@@ -288,14 +329,16 @@ table =
     -- "Cues are ordered by start, kind in that order, range length, name. An equal cue is accepted and adds nothing.": their names
     ∷ case (map (λ c. c .name) (ended mixed .cues)) (6 ∷ 2 ∷ 9 ∷ 3 ∷ 8 ∷ 1 ∷ [])
     -- "20 table holds 128 cues": the 128th passes, the 129th does not, an equal one does
-    ∷ case (numberDue (ended (pointsTo 127)) (Call.cue (at 128 Point 7)) ∷ numberDue (ended (pointsTo 128)) (Call.cue (at 129 Point 7)) ∷ numberDue (ended (pointsTo 128)) (Call.cue (at 128 Point 7)) ∷ []) (0 ∷ 20 ∷ 0 ∷ [])
+    ∷ case (numberDue (ended (pointsTo 127)) (Call.cue (at 128 Point 7)) ∷ numberDue (ended (pointsTo 128)) (Call.cue (at 129 Point 7)) ∷ numberDue (ended (pointsTo 128))
+    (Call.cue (at 128 Point 7)) ∷ []) (0 ∷ 20 ∷ 0 ∷ [])
     -- "25 512 blocks pushed": the 512th passes, the 513th does not
     ∷ case (pushed (many 511) (mono 16 eight true) 64 ∷ pushed (many 512) (mono 16 eight true) 64 ∷ []) (0 ∷ 25 ∷ [])
     -- push's numbers 29, 15, 12, 11, 23, 24 in stereo, 22, 9, 10, 14 in mono
     ∷ case (pushed one (mono 16 eight false) 999 ∷ pushed one (pair 32001 16 eight (replicate 16 (pos 0))) 999 ∷ pushed one (pair 32000 17 eight (replicate 16 (pos 0))) 999
     ∷ pushed one (pair 32000 16 [] (replicate 16 (pos 0))) 999 ∷ pushed one (pair 32000 16 eight (replicate 16 (pos 1))) 999 ∷ pushed one (pair 32000 16 eight (replicate 16 (pos 0))) 999 ∷ [])
     (29 ∷ 15 ∷ 12 ∷ 11 ∷ 23 ∷ 24 ∷ [])
-    ∷ case (pushed single (rated 32001) 999 ∷ pushed empty (rated 0) 999 ∷ pushed single (mono 1 (7 ∷ []) false) 999 ∷ pushed single (mono 16 eight true) 63 ∷ pushed single (mono 16 eight true) 64 ∷ [])
+    ∷ case (pushed single (rated 32001) 999 ∷ pushed empty (rated 0) 999 ∷ pushed single (mono 1 (7 ∷ []) false) 999 ∷ pushed single (mono 16 eight true) 63
+    ∷ pushed single (mono 16 eight true) 64 ∷ [])
     (22 ∷ 9 ∷ 10 ∷ 14 ∷ 0 ∷ [])
     -- 23 in mono, also of negative coefficients; the same ones pass
     ∷ case (pushed single (coded (replicate 16 (pos 1))) 999 ∷ pushed (ended (Call.push (coded (replicate 16 (negsuc 0))) (replicate 64 9) ∷ [])) (coded (replicate 16 (negsuc 1))) 999
@@ -305,7 +348,8 @@ table =
     -- "Bytes for n addresses: ADPCM (n+1)/2 rounded down, PCM16 2n, PCM8 n."; "Samples for n addresses: n in PCM"
     ∷ case (addressToByteUp Adpcm 3 ∷ addressToByteUp Pcm16 3 ∷ addressToByteUp Pcm8 3 ∷ numSamples Pcm16 3 ∷ numSamples Pcm8 17 ∷ numSamples Adpcm 17 ∷ []) (2 ∷ 6 ∷ 3 ∷ 3 ∷ 17 ∷ 14 ∷ [])
     -- "Order: 3, 7, 14."
-    ∷ case (map answer (answerOf (begin 191 3 Auto []) ∷ answerOf (begin 191 1 Auto []) ∷ answerOf (begin 16777217 2 Auto []) ∷ answerOf (begin 192 2 Auto []) ∷ answerOf (begin 192 2 Auto (9 ∷ [])) ∷ answerOf (begin 16777216 2 Auto (9 ∷ [])) ∷ [])) (stop 3 ∷ stop 7 ∷ stop 7 ∷ stop 14 ∷ 0 ∷ 0 ∷ [])
+    ∷ case (map answer (answerOf (begin 191 3 Auto []) ∷ answerOf (begin 191 1 Auto []) ∷ answerOf (begin 16777217 2 Auto []) ∷ answerOf (begin 192 2 Auto [])
+    ∷ answerOf (begin 192 2 Auto (9 ∷ [])) ∷ answerOf (begin 16777216 2 Auto (9 ∷ [])) ∷ [])) (stop 3 ∷ stop 7 ∷ stop 7 ∷ stop 14 ∷ 0 ∷ 0 ∷ [])
     -- the worked example: its bytes, by the book and by the program's writes on a slot of 300 bytes; HEAD, BLCK, LOOP and CUEP
     ∷ case (fileBytes (ended worked)) file
     ∷ case (carry (replicate 300 170) (allWrites (begin 300 1 Auto (9 ∷ [])) worked)) (file ++ replicate 76 170)
@@ -315,7 +359,8 @@ table =
     ∷ case (cues (nthCue file reader (firstCursor reader) 0 ∷ nthCue file reader (firstCursor reader) 1 ∷ nthCue file reader (firstCursor reader) 2 ∷ [])) (0 ∷ 0 ∷ 1 ∷ 5 ∷ [])
     -- its data; "block read's 1 comes with the moved position"; 6; past the last the end
     ∷ case (part (blockRead file reader 0 0)) (32000 ∷ 0 ∷ replicate 16 0 ++ (0 ∷ 16 ∷ 0 ∷ 0 ∷ 0 ∷ 192 ∷ eight) ++ (1 ∷ []))
-    ∷ case (part (blockRead (take 199 file) reader 0 0) ++ part (blockRead file reader 1 0) ++ part (blockRead file reader 0 1) ++ part (blockRead (take 159 file) reader 0 0)) (stop 1 ∷ 1 ∷ stop 6 ∷ stop 1 ∷ 1 ∷ [])
+    ∷ case (part (blockRead (take 199 file) reader 0 0) ++ part (blockRead file reader 1 0) ++ part (blockRead file reader 0 1) ++ part (blockRead (take 159 file) reader 0 0))
+    (stop 1 ∷ 1 ∷ stop 6 ∷ stop 1 ∷ 1 ∷ [])
     ∷ case (left (dataRemaining file reader 0) ∷ left (dataRemaining file reader 1) ∷ left (dataRemaining (take 191 file) reader 0) ∷ []) (16 ∷ 0 ∷ stop 1 ∷ [])
     -- a refused cue call leaves the cursor: from block 0 past its one cue, the second header leaving the slot; in the whole slot; a call that gives the Loop reads no header
     ∷ case (stepIn (cueStep (take 255 (fileBytes (ended two))) twoReader (cursor 0 1 0 false))) (stop 1 ∷ 0 ∷ 1 ∷ 0 ∷ [])
@@ -324,15 +369,23 @@ table =
     -- two stereo blocks, from the Rust: the bytes, by the book and by the program's writes; opening, a read of channel 1, the cues
     ∷ case (fileBytes recordedBook) files.stereo
     ∷ case (carry (replicate 420 85) (allWrites (begin 420 2 Auto (9 ∷ [])) recorded)) (files.stereo ++ replicate 4 85)
-    ∷ case (head (opening files.stereo) ++ channels (opening files.stereo)) (32000 ∷ 2 ∷ 2 ∷ 1 ∷ 1 ∷ 0 ∷ 2 ∷ 31 ∷ 2 ∷ 65535 ∷ 2 ∷ 65533 ∷ 4 ∷ 65531 ∷ 6 ∷ 65529 ∷ 8 ∷ 65527 ∷ 10 ∷ 65525 ∷ 12 ∷ 65523 ∷ 14 ∷ 65521 ∷ 65520 ∷ 258 ∷ 17 ∷ 65534 ∷ 300 ∷ 1 ∷ 0 ∷ 2 ∷ 31 ∷ 2 ∷ 32768 ∷ 32767 ∷ 256 ∷ 65280 ∷ 1000 ∷ 64536 ∷ 17 ∷ 65519 ∷ 12345 ∷ 53191 ∷ 0 ∷ 1 ∷ 65534 ∷ 300 ∷ 65236 ∷ 255 ∷ 772 ∷ 33 ∷ 400 ∷ 65531 ∷ 128 ∷ 288 ∷ 0 ∷ [])
-    ∷ case (part (blockRead files.stereo (openingOf recordedBook) 1 1)) (32000 ∷ 0 ∷ 32768 ∷ 32767 ∷ 256 ∷ 65280 ∷ 1000 ∷ 64536 ∷ 17 ∷ 65519 ∷ 12345 ∷ 53191 ∷ 0 ∷ 1 ∷ 65534 ∷ 300 ∷ 65236 ∷ 255 ∷ 772 ∷ 16 ∷ 67 ∷ 32767 ∷ 32768 ∷ 384 ∷ 135 ∷ 150 ∷ 165 ∷ 180 ∷ 195 ∷ 210 ∷ 225 ∷ 255 ∷ 2 ∷ [])
+    ∷ case (head (opening files.stereo) ++ channels (opening files.stereo)) (32000 ∷ 2 ∷ 2 ∷ 1 ∷ 1 ∷ 0 ∷ 2 ∷ 31 ∷ 2 ∷ 65535 ∷ 2 ∷ 65533 ∷ 4 ∷ 65531 ∷ 6 ∷ 65529 ∷ 8 ∷ 65527 ∷ 10 ∷ 65525 ∷ 12
+    ∷ 65523 ∷ 14 ∷ 65521 ∷ 65520 ∷ 258 ∷ 17 ∷ 65534 ∷ 300 ∷ 1 ∷ 0 ∷ 2 ∷ 31 ∷ 2 ∷ 32768 ∷ 32767 ∷ 256 ∷ 65280 ∷ 1000 ∷ 64536 ∷ 17 ∷ 65519 ∷ 12345 ∷ 53191 ∷ 0 ∷ 1 ∷ 65534 ∷ 300 ∷ 65236 ∷ 255
+    ∷ 772 ∷ 33 ∷ 400 ∷ 65531 ∷ 128 ∷ 288 ∷ 0 ∷ [])
+    ∷ case (part (blockRead files.stereo (openingOf recordedBook) 1 1)) (32000 ∷ 0 ∷ 32768 ∷ 32767 ∷ 256 ∷ 65280 ∷ 1000 ∷ 64536 ∷ 17 ∷ 65519 ∷ 12345 ∷ 53191 ∷ 0 ∷ 1 ∷ 65534 ∷ 300 ∷ 65236
+    ∷ 255 ∷ 772 ∷ 16 ∷ 67 ∷ 32767 ∷ 32768 ∷ 384 ∷ 135 ∷ 150 ∷ 165 ∷ 180 ∷ 195 ∷ 210 ∷ 225 ∷ 255 ∷ 2 ∷ [])
     ∷ case (cues (cuesOf recordedBook)) (1 ∷ 1 ∷ 2 ∷ 2 ∷ 3 ∷ 3 ∷ 4 ∷ 4 ∷ 5 ∷ 5 ∷ 6 ∷ 6 ∷ 0 ∷ 14 ∷ 7 ∷ 15 ∷ [])
     -- PCM16 and PCM8, from the Rust: "Channel 1's data starts P(bytes) after channel 0's, bytes counted in channel 1's own format."
-    ∷ case (head (opening files.pcm16) ++ part (blockRead files.pcm16 (opened (opening files.pcm16) reader) 1 0)) (32000 ∷ 2 ∷ 1 ∷ 512 ∷ 32000 ∷ 25 ∷ 0 ∷ 0 ∷ 0 ∷ 0 ∷ 0 ∷ 0 ∷ 0 ∷ 0 ∷ 0 ∷ 0 ∷ 0 ∷ 0 ∷ 0 ∷ 0 ∷ 0 ∷ 0 ∷ 0 ∷ 17 ∷ 0 ∷ 0 ∷ 0 ∷ 192 ∷ 33 ∷ 34 ∷ 103 ∷ 104 ∷ 105 ∷ 106 ∷ 107 ∷ 108 ∷ 109 ∷ 110 ∷ 111 ∷ 112 ∷ 113 ∷ 114 ∷ 115 ∷ 116 ∷ 117 ∷ 1 ∷ [])
-    ∷ case (head (opening files.pcm8) ++ part (blockRead files.pcm8 (opened (opening files.pcm8) reader) 1 0)) (32000 ∷ 2 ∷ 1 ∷ 512 ∷ 32000 ∷ 10 ∷ 0 ∷ 0 ∷ 0 ∷ 0 ∷ 0 ∷ 0 ∷ 0 ∷ 0 ∷ 0 ∷ 0 ∷ 0 ∷ 0 ∷ 0 ∷ 0 ∷ 0 ∷ 0 ∷ 0 ∷ 17 ∷ 0 ∷ 0 ∷ 0 ∷ 224 ∷ 101 ∷ 102 ∷ 103 ∷ 104 ∷ 105 ∷ 106 ∷ 107 ∷ 108 ∷ 109 ∷ 110 ∷ 111 ∷ 112 ∷ 113 ∷ 114 ∷ 115 ∷ 116 ∷ 117 ∷ 118 ∷ 119 ∷ 120 ∷ 121 ∷ 122 ∷ 123 ∷ 124 ∷ 125 ∷ 126 ∷ 127 ∷ 128 ∷ 129 ∷ 130 ∷ 131 ∷ 132 ∷ 133 ∷ 134 ∷ 1 ∷ [])
+    ∷ case (head (opening files.pcm16) ++ part (blockRead files.pcm16 (opened (opening files.pcm16) reader) 1 0))
+    (32000 ∷ 2 ∷ 1 ∷ 512 ∷ 32000 ∷ 25 ∷ 0 ∷ 0 ∷ 0 ∷ 0 ∷ 0 ∷ 0 ∷ 0 ∷ 0 ∷ 0 ∷ 0 ∷ 0 ∷ 0 ∷ 0 ∷ 0 ∷ 0 ∷ 0 ∷ 0 ∷ 17 ∷ 0 ∷ 0 ∷ 0 ∷ 192 ∷ 33 ∷ 34 ∷ 103 ∷ 104 ∷ 105 ∷ 106 ∷ 107 ∷ 108 ∷ 109 ∷ 110
+    ∷ 111 ∷ 112 ∷ 113 ∷ 114 ∷ 115 ∷ 116 ∷ 117 ∷ 1 ∷ [])
+    ∷ case (head (opening files.pcm8) ++ part (blockRead files.pcm8 (opened (opening files.pcm8) reader) 1 0))
+    (32000 ∷ 2 ∷ 1 ∷ 512 ∷ 32000 ∷ 10 ∷ 0 ∷ 0 ∷ 0 ∷ 0 ∷ 0 ∷ 0 ∷ 0 ∷ 0 ∷ 0 ∷ 0 ∷ 0 ∷ 0 ∷ 0 ∷ 0 ∷ 0 ∷ 0 ∷ 0 ∷ 17 ∷ 0 ∷ 0 ∷ 0 ∷ 224 ∷ 101 ∷ 102 ∷ 103 ∷ 104 ∷ 105 ∷ 106 ∷ 107 ∷ 108 ∷ 109 ∷ 110
+    ∷ 111 ∷ 112 ∷ 113 ∷ 114 ∷ 115 ∷ 116 ∷ 117 ∷ 118 ∷ 119 ∷ 120 ∷ 121 ∷ 122 ∷ 123 ∷ 124 ∷ 125 ∷ 126 ∷ 127 ∷ 128 ∷ 129 ∷ 130 ∷ 131 ∷ 132 ∷ 133 ∷ 134 ∷ 1 ∷ [])
     -- the estimate: "128 + Σ(32 + channels × P(bytes)) + 32p"; "Order: 3, 5, then per length 10, 13."; 512 and 513 lengths, p = 4,294,967,295
     ∷ case (map answer (estimateOf 1 (16 ∷ []) 1 ∷ estimateOf 2 (16 ∷ 17 ∷ []) 3 ∷ estimateOf 1 [] 4294967295 ∷ estimateOf 1 (replicate 512 131072) 0 ∷ [])) (224 ∷ 416 ∷ 137438953568 ∷ 33570944 ∷ [])
-    ∷ case (map answer (estimateOf 3 (replicate 513 0) 0 ∷ estimateOf 1 (replicate 513 0) 0 ∷ estimateOf 1 (131073 ∷ 1 ∷ []) 0 ∷ estimateOf 2 (1 ∷ 65537 ∷ []) 0 ∷ estimateOf 2 (65537 ∷ []) 0 ∷ estimateOf 1 (131072 ∷ []) 0 ∷ estimateOf 2 (65536 ∷ []) 0 ∷ [])) (stop 3 ∷ stop 5 ∷ stop 13 ∷ stop 10 ∷ stop 13 ∷ 65696 ∷ 65696 ∷ [])
+    ∷ case (map answer (estimateOf 3 (replicate 513 0) 0 ∷ estimateOf 1 (replicate 513 0) 0 ∷ estimateOf 1 (131073 ∷ 1 ∷ []) 0 ∷ estimateOf 2 (1 ∷ 65537 ∷ []) 0 ∷ estimateOf 2 (65537 ∷ []) 0
+    ∷ estimateOf 1 (131072 ∷ []) 0 ∷ estimateOf 2 (65536 ∷ []) 0 ∷ [])) (stop 3 ∷ stop 5 ∷ stop 13 ∷ stop 10 ∷ stop 13 ∷ 65696 ∷ 65696 ∷ [])
     ∷ []
 
 -- Every case gives what document 01 says.

@@ -80,7 +80,8 @@ every s b [] a m = ended
 every s b (w ∷ ws) (more i a) m =
     by-cases (leb (length (w .bytes)) m)
     (λ t.
-    let e : reached s w (length (w .bytes)) ≡ carried s w = reached-in s (w .offset) (w .bytes) (length (w .bytes)) (i .ends) ∙ ap (put s (w .offset)) (take-all (length (w .bytes)) (w .bytes) (omega arith)) in
+    let e : reached s w (length (w .bytes)) ≡ carried s w = reached-in s (w .offset) (w .bytes) (length (w .bytes)) (i .ends)
+    ∙ ap (put s (w .offset)) (take-all (length (w .bytes)) (w .bytes) (omega arith)) in
     let n : length (carried s w) ≡ length s = put-length s (w .offset) (w .bytes) (i .ends) in
     rw (t, e) (took (every (carried s w) (bytes-put s (w .offset) (w .bytes) b (i .bytes)) ws (inside-in (sym n) a) (m - length (w .bytes)))))
     (λ t. rw t (under-way s b w ws i m (leb-false (length (w .bytes)) m t)))

@@ -134,7 +134,8 @@ walk-all : {places : List Place} {count : ℕ} {bytes : List ℕ} {i at : ℕ} �
 unfolding writesIn
 walk-all {places} {count} {i = i} c h = rw (drop-of-length-le (take count places) {i = i} (omega (arith, length-take-le count places (c .room))))
 
-module _ {places : List Place} {count : ℕ} {bytes : List ℕ} {i at size : ℕ} (c : Walk places count bytes i at) (d : Place) (l : i < count) (z : size ≡ min (getD places i d .length) (length bytes - at)) where
+module _ {places : List Place} {count : ℕ} {bytes : List ℕ} {i at size : ℕ} (c : Walk places count bytes i at) (d : Place) (l : i < count)
+    (z : size ≡ min (getD places i d .length) (length bytes - at)) where
   walk-more : Walk places count bytes (i + 1) (at + size)
   walk-more = record { few = omega arith; room = c .room; inside = omega (arith, z, c .inside) }
 
@@ -147,7 +148,14 @@ module _ {places : List Place} {count : ℕ} {bytes : List ℕ} {i at size : ℕ
       let h : i < length (take count places) = omega (arith, length-take-le count places (c .room)) in
       let e : size ≡ min (getD places i d .length) (length (drop at bytes)) = omega (arith, z, length-drop at bytes) in
       let n : i + 1 ≡ suc i = add-one i in
-      rw (n, drop-cons (take count places) i d h, getD-take count places i d l, ← same-take (getD places i d .length) (drop at bytes) e, ← same-drop (getD places i d .length) (drop at bytes) e, drop-drop)
+      rw (
+        n,
+        drop-cons (take count places) i d h,
+        getD-take count places i d l,
+        ← same-take (getD places i d .length) (drop at bytes) e,
+        ← same-drop (getD places i d .length) (drop at bytes) e,
+        drop-drop,
+      )
 
 -- They are carried out, and so many bytes are left of the moment.
 pub record Carried (start : List ℕ) (places : List Place) (count : ℕ) (bytes : List ℕ) (moment : ℕ) (slot : List ℕ) (i at left : ℕ) : Type 0 where
@@ -200,7 +208,8 @@ module _ {slot : List ℕ} {places : List Place} {count : ℕ} {bytes : List ℕ
     passing-all h = same ∙ sym (c .is ∙ rw (walk-all (c .walk) h))
 
     module _ {size : ℕ} (d : Place) (l : i < count) (z : size ≡ min (getD places i d .length) (length bytes - at)) where
-      after : nextByte slot (writesIn (take count places) bytes) moment ≡ nextByte slot (write (getD places i d .offset) (take size (drop at bytes)) ∷ others places count bytes (i + 1) (at + size)) left
+      after : nextByte slot (writesIn (take count places) bytes) moment
+          ≡ nextByte slot (write (getD places i d .offset) (take size (drop at bytes)) ∷ others places count bytes (i + 1) (at + size)) left
       after = c .is ∙ ap (λ (ws : List Write). nextByte slot ws left) (opened (c .walk) d l z)
 
       pub passing-here : {u : List ℕ} (n : ℕ) → n ≡ size → left < size → u ≡ reachedNext t (write (getD places i d .offset) (take n (drop at bytes))) left

@@ -12,7 +12,8 @@ use lib.IntN.{ℤ}
 use Rattle.layout.specs.Choice.{pick, _or_}
 use Rattle.layout.specs.Lists.{All, none, more, any, filter}
 use Rattle.layout.specs.Types.{Bytes}
-use Rattle.layout.specs.Records.{P, adpcmSamples, magic, be16, be32, beZ16, contextBytes, channelBytes, fileHeaderBytes, headerBytes, cueBytes, fillers, padded, blockHeader, blockBytes, fileHeaderSize}
+use Rattle.layout.specs.Records.{P, adpcmSamples, magic, be16, be32, beZ16, contextBytes, channelBytes, fileHeaderBytes, headerBytes, cueBytes, fillers, padded}
+use Rattle.layout.specs.Records.{blockHeader, blockBytes, fileHeaderSize}
 use Rattle.layout.specs.declared.FrameContext.{FrameContext}
 use Rattle.layout.specs.declared.Channel.{Channel}
 use Rattle.layout.specs.declared.CuePoint.{CuePoint}
@@ -86,7 +87,8 @@ small-z z = small-16 _
 small-channel : (c : Channel) → All Small (channelBytes c)
 unfolding channelBytes
 small-channel c =
-    all-append (all-append (all-append (all-append (all-append (all-append (all-append (small-16 _) (small-16 _)) (small-32 _)) (small-32 _)) (small-32 _)) (all-flatMap beZ16 small-z _)) (small-16 _)) (small-context _)
+    all-append (all-append (all-append (all-append (all-append (all-append (all-append (small-16 _) (small-16 _)) (small-32 _)) (small-32 _)) (small-32 _)) (all-flatMap beZ16 small-z _))
+    (small-16 _)) (small-context _)
 
 small-file : (rate count : ℕ) (l r : Channel) → All Small (fileHeaderBytes rate count l r)
 unfolding fileHeaderBytes any
@@ -105,7 +107,8 @@ small-block : (next n : ℕ) (l r : FrameContext) (ps : List CuePoint) (ds : Lis
 unfolding blockBytes headerBytes blockHeader any
 small-block next n l r ps ds few a =
     all-append
-    (all-append (all-append (all-append (all-append (all-append (all-append (all-append (small-32 _) (small-32 _)) (small-32 _)) (small-context l)) (smalls (0 ∷ 0 ∷ []) refl)) (small-context r)) (smalls (0 ∷ 0 ∷ []) refl)) (more few (smalls (0 ∷ 0 ∷ 0 ∷ []) refl)))
+    (all-append (all-append (all-append (all-append (all-append (all-append (all-append (small-32 _) (small-32 _)) (small-32 _)) (small-context l)) (smalls (0 ∷ 0 ∷ []) refl))
+    (small-context r)) (smalls (0 ∷ 0 ∷ []) refl)) (more few (smalls (0 ∷ 0 ∷ 0 ∷ []) refl)))
     (all-append (all-flatMap cueBytes small-cue ps) (all-append (all-flatMap cueBytes small-cue _) (small-data ds a)))
 
 -- ---- The calls

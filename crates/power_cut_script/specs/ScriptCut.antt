@@ -21,4 +21,5 @@ unfoldable pub ScriptCut : Type 0
 ScriptCut =
     (earlier : List ℕ) → Slice earlier → (script : List ℕ) → Slice script → answerOf (begins (length earlier) script) ≡ accepted 0
     → (moment : ℕ)
-    → AfterCut earlier (bookRun (begunBy (length earlier) script) (callsOf script)) (scriptWrites (length earlier) script) (takenAt (scriptWrites (length earlier) script) moment) (slotAt earlier (scriptWrites (length earlier) script) moment)
+    → AfterCut earlier (bookRun (begunBy (length earlier) script) (callsOf script)) (scriptWrites (length earlier) script) (takenAt (scriptWrites (length earlier) script) moment)
+    (slotAt earlier (scriptWrites (length earlier) script) moment)

@@ -143,7 +143,10 @@ coefficientsOf l = record { good = goodFrom l 7 16; values = coefficientsFrom l 
 -- Its context: ps s0 s1.
 unfoldable pub contextOf : List ℕ → Context
 contextOf l =
-    record { good = decimalAt l 4 most16 .good and smallAt l 5 .good and smallAt l 6 .good; context = record { «predictor_and_scale» = decimalAt l 4 most16 .value; last = smallAt l 5 .value; oldest = smallAt l 6 .value } }
+    record {
+      good = decimalAt l 4 most16 .good and smallAt l 5 .good and smallAt l 6 .good;
+      context = record { «predictor_and_scale» = decimalAt l 4 most16 .value; last = smallAt l 5 .value; oldest = smallAt l 6 .value };
+    }
 
 -- Its data, as text.
 abbrev pub dataWord : List ℕ → List ℕ

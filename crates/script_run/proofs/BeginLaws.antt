@@ -67,7 +67,9 @@ refused-log o g h = rw (refused-places (o .reply) h)
 abbrev Leaves : (slot : ℕ) → (s logged : List ℕ) → Loaded → List ℕ → Type 0
 Leaves slot s logged q k = (q ≡ record { refused = beginRefused slot s; log = begunLog slot s logged .log }) × (k ≡ begunLog slot s logged .bytes)
 
-module _ (slot : ℕ) (logged : List ℕ) {n : ℕ} {s line : List ℕ} {st : Start} {b : BeginLine} {r : Bool} {m : Made} {after : List ℕ} (start : Starts s keyLimit st) (el : line ≡ lineOf (drop (st .at) s)) (eb : b ≡ beginLine line) (en : n ≡ begunLength slot) (made : CallMade (beginBy n b st) (logging emptyLog logged) m after) (er : r ≡ refusedReply (m .reply)) where
+module _ (slot : ℕ) (logged : List ℕ) {n : ℕ} {s line : List ℕ} {st : Start} {b : BeginLine} {r : Bool} {m : Made} {after : List ℕ} (start : Starts s keyLimit st)
+    (el : line ≡ lineOf (drop (st .at) s)) (eb : b ≡ beginLine line) (en : n ≡ begunLength slot) (made : CallMade (beginBy n b st) (logging emptyLog logged) m after)
+    (er : r ≡ refusedReply (m .reply)) where
   is-begins : beginBy n b st ≡ begins slot s
   unfolding begins
   is-begins = rw (en, eb, el, start .line, start .buffer)

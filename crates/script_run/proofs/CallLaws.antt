@@ -50,7 +50,8 @@ pub line-fits : (s : List ℕ) (at : ℕ) {l : List ℕ} → l ≡ lineOf (drop 
 line-fits s at e h = rw e (omega (arith, line-short s at))
 
 -- A line's data, put into room for it.
-module _ (l z : List ℕ) {w b : List ℕ} {n : ℕ} (short : length l ≤ scriptLimit) (ew : w ≡ dataWord l) (room : 524288 ≡ length z) (e : b ≡ putAt z 0 (bytesSaid w)) (m : n ≡ pick (leb (0 + length (bytesSaid w)) (length z)) (length (bytesSaid w)) 0) where
+module _ (l z : List ℕ) {w b : List ℕ} {n : ℕ} (short : length l ≤ scriptLimit) (ew : w ≡ dataWord l) (room : 524288 ≡ length z) (e : b ≡ putAt z 0 (bytesSaid w))
+    (m : n ≡ pick (leb (0 + length (bytesSaid w)) (length z)) (length (bytesSaid w)) 0) where
   fits : length (bytesSaid w) ≤ length z
   fits = let e = data-length w in let n : length w ≤ length l = rw ew (word-short l 23) in omega arith
 
@@ -71,7 +72,8 @@ module _ (l z : List ℕ) {w b : List ℕ} {n : ℕ} (short : length l ≤ scrip
 -- ---- Push
 
 module _ (w : HpsWriter) (lent : List ℕ) (g : Logging) {m : Made} {after : List ℕ} where
-  pub sides-made : (p : PushLine) (left right : List ℕ) {x y : ChannelLine} {d f : List ℕ} → x ≡ channelLine left → y ≡ channelLine right → d ≡ bytesSaid (dataWord left) → f ≡ bytesSaid (dataWord right)
+  pub sides-made : (p : PushLine) (left right : List ℕ) {x y : ChannelLine} {d f : List ℕ} → x ≡ channelLine left → y ≡ channelLine right → d ≡ bytesSaid (dataWord left)
+      → f ≡ bytesSaid (dataWord right)
       → CallMade (pushOf w (pushArgs (p .channels) (x .block) (y .block) d f (p .last)) lent) g m after → CallMade (pushOf w (pushWith p left right) lent) g m after
   unfolding pushWith sideSaid channelLine
   sides-made p left right ex ey ed ef h = rw (ex, ey, ed, ef) at h

@@ -19,7 +19,8 @@ use Rattle.script_run.specs.Running.{logRun, Makes, allOf, Follows}
 use Rattle.script_run.specs.declared.loading.Loading.{Loading}
 use Rattle.script_run.specs.declared.loading.Loaded.{Loaded}
 
-pub follows : {s : List ℕ} {at : ℕ} (next : ℕ) {st : Loading} {logged line : List ℕ} {kind : Kind} {m : Made} {after : List ℕ} {lent : ℕ} (call : ℕ) → at < length s → drop next s ≡ linesAfter (drop at s) → line ≡ lineOf (drop at s) → kind ≡ lineKind line
+pub follows : {s : List ℕ} {at : ℕ} (next : ℕ) {st : Loading} {logged line : List ℕ} {kind : Kind} {m : Made} {after : List ℕ} {lent : ℕ} (call : ℕ) → at < length s
+    → drop next s ≡ linesAfter (drop at s) → line ≡ lineOf (drop at s) → kind ≡ lineKind line
     → Makes (callBy kind line (st .lent) (linesOf (drop next s))) (st .writer) (logging (st .log) logged) m after → lent ≡ lentBy kind line (st .lent)
     → Follows s at st logged (record { writer = m .writer; log = m .log; lent = lent; call = call }) after
 unfolding allOf callsIn

@@ -10,7 +10,8 @@ use lib.Seq.{drop-cons, drop-length, drop-drop}
 use Rattle.layout.specs.Choice.{pick, _and_}
 use Rattle.layout.specs.Lists.{firstIndex}
 use Rattle.layout.proofs.Cases.{by-cases}
-use Rattle.script_words.specs.Texts.{endsLine, startsComment, uncommented, lineOf, linesAfter, onto, parted, linesOf, isBlank, isLetter, fromWord, firstWord, afterWord, wordFrom, wordsFrom, wordCount}
+use Rattle.script_words.specs.Texts.{endsLine, startsComment, uncommented, lineOf, linesAfter, onto, parted, linesOf, isBlank, isLetter, fromWord}
+use Rattle.script_words.specs.Texts.{firstWord, afterWord, wordFrom, wordsFrom, wordCount}
 
 -- ---- A scan for the first byte that passes a test
 

@@ -198,7 +198,13 @@ module _ (u : Setup) (s : Stream) (t : Taken) (held : Bool) (end ch : ℕ) (l r 
         pub plan-made : (bytes start next : ℕ) (other : FrameContext) (after : Stream) → bytes ≡ dataSize ch lb rb → start ≡ dataAfter (t .points)
             → next ≡ nextOffset last loopat (s .offset + size) → other ≡ secondContext ch r
             → after ≡ advanced s (t .to) (t .points) end size loopat l r last
-            → record { due = 0; header = record { size = bytes; «end_address» = l .length - 1; «next_offset» = next; left = l .context; right = other; cues = t .points }; start = start; size = size; after = after }
+            → record {
+              due = 0;
+              header = record { size = bytes; «end_address» = l .length - 1; «next_offset» = next; left = l .context; right = other; cues = t .points };
+              start = start;
+              size = size;
+              after = after;
+            }
             ≡ planOf u s t held end ch l r lb rb last lent
         unfolding planOf madePlan headerIn
         plan-made bytes start next other after ed es en eo ea =

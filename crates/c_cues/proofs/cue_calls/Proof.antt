@@ -27,9 +27,6 @@ returns c =
     let s = c .before .before .before .before .before in
     short-cursor _ _ (lent s) (c .if1 .taken)
 
-reader-in-requires : tie.Need-reader-in-requires
-reader-in-requires c κs = search needs
-
 returns-2 : tie.Need-returns-2
 returns-2 c =
     let s = c .before .before .before .before .before .before .before in
@@ -40,32 +37,8 @@ returns-3 c =
     let s = c .before .before .before .before .before .before .before .before in
     no-room _ _ (lent s) (c .before .before .before .if1 .left) _ (c .before .before .reader-in .ensures .0) (c .before .if2 .left) (c .if3 .taken)
 
-cursor-in-requires : tie.Need-cursor-in-requires
-cursor-in-requires c κs = search needs
-
-element-copy-out-left : tie.Need-element-copy-out-left
-element-copy-out-left c = search needs
-
-slice-aggregate-fill-cues : tie.Need-slice-aggregate-fill-cues
-slice-aggregate-fill-cues c = search needs
-
 fill-cues-requires : tie.Need-fill-cues-requires
 fill-cues-requires c κs = table-long _ _ (c .before .before .before .before .before .before .before .before .reader-in .ensures .0)
-
-number-after-requires : tie.Need-number-after-requires
-number-after-requires c κs = search needs
-
-gives-requires : tie.Need-gives-requires
-gives-requires c κs = search needs
-
-put-cursor-requires : tie.Need-put-cursor-requires
-put-cursor-requires c κs = search needs
-
-same-length : tie.Need-same-length
-same-length c = search needs
-
-same-length-2 : tie.Need-same-length-2
-same-length-2 c = search needs
 
 returns-4 : tie.Need-returns-4
 returns-4 c =
@@ -75,15 +48,11 @@ returns-4 c =
     let e = u .before .before .before .before .before .before .before .before .before .reader-in .ensures .0 in
     let p = parts _ r e _ (ap (λ (x : Channel). x .format) (element (r .channels) 0 noChannel _ (omega (arith, two-channels _ r e)))) in
     let g = u .fill-cues .ensures in
-    gave _ _ (lent s) (u .before .before .before .before .before .before .before .before .before .before .if1 .left) r e (u .before .before .before .before .before .before .before .before .if2 .left) (u .before .before .before .before .before .before .before .if3 .left) _
+    gave _ _ (lent s) (u .before .before .before .before .before .before .before .before .before .before .if1 .left) r e
+    (u .before .before .before .before .before .before .before .before .if2 .left) (u .before .before .before .before .before .before .before .if3 .left) _
     (u .before .before .before .before .before .cursor-in .ensures) _ (g .0 r p) (g .1 r p)
-    (c .before .before .before .before .before .before .before .number-after .ensures) (c .before .before .put-cursor .ensures) (sym (c .before .before .before .before .before .before .gives .ensures) ∙ c .before .before .before .before .before .if4 .taken)
-
-same-length-3 : tie.Need-same-length-3
-same-length-3 c = search needs
-
-same-length-4 : tie.Need-same-length-4
-same-length-4 c = search needs
+    (c .before .before .before .before .before .before .before .number-after .ensures) (c .before .before .put-cursor .ensures)
+    (sym (c .before .before .before .before .before .before .gives .ensures) ∙ c .before .before .before .before .before .if4 .taken)
 
 returns-5 : tie.Need-returns-5
 returns-5 c =
@@ -93,7 +62,8 @@ returns-5 c =
     let e = u .before .before .before .before .before .before .before .before .before .reader-in .ensures .0 in
     let p = parts _ r e _ (ap (λ (x : Channel). x .format) (element (r .channels) 0 noChannel _ (omega (arith, two-channels _ r e)))) in
     let g = u .fill-cues .ensures in
-    left _ _ (lent s) (u .before .before .before .before .before .before .before .before .before .before .if1 .left) r e (u .before .before .before .before .before .before .before .before .if2 .left) (u .before .before .before .before .before .before .before .if3 .left) _
+    left _ _ (lent s) (u .before .before .before .before .before .before .before .before .before .before .if1 .left) r e
+    (u .before .before .before .before .before .before .before .before .if2 .left) (u .before .before .before .before .before .before .before .if3 .left) _
     (u .before .before .before .before .before .cursor-in .ensures) _ (g .0 r p) (g .1 r p)
     (c .before .before .number-after .ensures) (sym (c .before .gives .ensures) ∙ c .if4 .left)
 
@@ -102,19 +72,19 @@ cue-calls-spec =
     tie.close
     (tie.spec
     returns
-    reader-in-requires
+    (λ c κs. search needs)
     returns-2
     returns-3
-    cursor-in-requires
-    element-copy-out-left
-    slice-aggregate-fill-cues
+    (λ c κs. search needs)
+    (λ c. search needs)
+    (λ c. search needs)
     fill-cues-requires
-    number-after-requires
-    gives-requires
-    put-cursor-requires
-    same-length
-    same-length-2
+    (λ c κs. search needs)
+    (λ c κs. search needs)
+    (λ c κs. search needs)
+    (λ c. search needs)
+    (λ c. search needs)
     returns-4
-    same-length-3
-    same-length-4
+    (λ c. search needs)
+    (λ c. search needs)
     returns-5)

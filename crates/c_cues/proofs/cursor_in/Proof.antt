@@ -11,28 +11,20 @@ use Rattle.layout_read.proofs.number_or_zero.word.Reads as word-reads
 first-cursor-requires : tie.Need-first-cursor-requires
 first-cursor-requires c κs = tt
 
-long-requires : tie.Need-long-requires
-long-requires c κs = omega arith
-
-long-requires-2 : tie.Need-long-requires-2
-long-requires-2 c κs = omega arith
-
-long-requires-3 : tie.Need-long-requires-3
-long-requires-3 c κs = omega arith
-
 word-requires : tie.Need-word-requires
 word-requires c κs = tt
 
 returns : tie.Need-returns
-returns c = cursor-read _ _ (c .before .before .before .before .before .first-cursor .ensures) (c .before .before .before .before .long .ensures) (c .before .before .before .long2 .ensures) (c .before .before .long3 .ensures) (c .before .word .ensures)
+returns c = cursor-read _ _ (c .before .before .before .before .before .first-cursor .ensures) (c .before .before .before .before .long .ensures) (c .before .before .before .long2 .ensures)
+    (c .before .before .long3 .ensures) (c .before .word .ensures)
 
 pub cursor-in-spec : {M : Type 1} → statement M
 cursor-in-spec =
     tie.close
     (tie.spec
     first-cursor-requires
-    long-requires
-    long-requires-2
-    long-requires-3
+    (λ c κs. omega arith)
+    (λ c κs. omega arith)
+    (λ c κs. omega arith)
     word-requires
     returns)

@@ -30,12 +30,6 @@ loop-holds c = (room-none, λ r p. filling-none _ r _ _)
 sub-loop : tie.Need-sub-loop Inv-loop μ-loop
 sub-loop c = omega (arith, c .loop .inv .0 .same, c .loop .inv .0 .fits)
 
-cue-from-requires : tie.Need-cue-from-requires Inv-loop μ-loop
-cue-from-requires c κs = search needs
-
-put-reply-requires : tie.Need-put-reply-requires Inv-loop μ-loop
-put-reply-requires c κs = omega arith
-
 filled-requires : tie.Need-filled-requires Inv-loop μ-loop
 filled-requires c κs = tt
 
@@ -45,22 +39,17 @@ same-length c = c .before .before .before .out .given ∙ c .before .before .bef
 returns : tie.Need-returns Inv-loop μ-loop
 returns c =
     let i = c .before .before .before .before .before .before .before .before .before .loop .inv in
-    let w = all-last _ _ _ _ _ _ _ _ _ _ _ (i .0) (i .1) (c .before .before .before .before .before .before .before .before .loop-test .taken) _ (step-of-parts _ _ _ _ _ _ (c .before .before .before .before .before .before .before .cue-from .ensures)) (c .before .before .before .before .put-reply .ensures .0) (c .before .before .before .before .put-reply .ensures .1) (c .before .if1 .taken) (c .filled .ensures) in
+    let w = all-last _ _ _ _ _ _ _ _ _ _ _ (i .0) (i .1) (c .before .before .before .before .before .before .before .before .loop-test .taken) _
+    (step-of-parts _ _ _ _ _ _ (c .before .before .before .before .before .before .before .cue-from .ensures)) (c .before .before .before .before .put-reply .ensures .0)
+    (c .before .before .before .before .put-reply .ensures .1) (c .before .if1 .taken) (c .filled .ensures) in
     (λ r p. w r p .0, λ r p. w r p .1)
-
-add-at : tie.Need-add-at Inv-loop μ-loop
-add-at c = search needs
-
-add-cues : tie.Need-add-cues Inv-loop μ-loop
-add-cues c = search needs
-
-loop-less : tie.Need-loop-less Inv-loop μ-loop
-loop-less c = search needs
 
 loop-again : tie.Need-loop-again Inv-loop μ-loop
 loop-again c =
     let i = c .before .before .before .before .before .before .before .before .loop .inv in
-    all-more _ _ _ _ _ _ _ _ _ _ _ (i .0) (i .1) (c .before .before .before .before .before .before .before .loop-test .taken) _ (step-of-parts _ _ _ _ _ _ (c .before .before .before .before .before .before .cue-from .ensures)) (c .before .before .before .put-reply .ensures .0) (c .before .before .before .put-reply .ensures .1) (c .if1 .left) (c .before .before .out .given)
+    all-more _ _ _ _ _ _ _ _ _ _ _ (i .0) (i .1) (c .before .before .before .before .before .before .before .loop-test .taken) _
+    (step-of-parts _ _ _ _ _ _ (c .before .before .before .before .before .before .cue-from .ensures)) (c .before .before .before .put-reply .ensures .0)
+    (c .before .before .before .put-reply .ensures .1) (c .if1 .left) (c .before .before .out .given)
 
 filled-requires-2 : tie.Need-filled-requires-2 Inv-loop μ-loop
 filled-requires-2 c κs = tt
@@ -82,14 +71,14 @@ fill-cues-spec =
     μ-loop
     loop-holds
     sub-loop
-    cue-from-requires
-    put-reply-requires
+    (λ c κs. search needs)
+    (λ c κs. omega arith)
     filled-requires
     same-length
     returns
-    add-at
-    add-cues
-    loop-less
+    (λ c. search needs)
+    (λ c. search needs)
+    (λ c. search needs)
     loop-again
     filled-requires-2
     same-length-2

@@ -47,18 +47,12 @@ answered : (c : tie.After-call-of) → let a = c .before .before .before .before
     c .call-of .result ≡ callOf (beginOf (a .slot) (a .channels) (modeOf (a .mode)) (a .lent .now))
 answered c = c .call-of .ensures ∙ ap (λ (q : Called). callIn (q .reply)) (begun (c .before .before .before .before) .0)
 
-refused-requires : tie.Need-refused-requires
-refused-requires c κs = search needs
-
 returns : tie.Need-returns
 returns c =
     let a = c .before .before .before .before .args in
     let e = c .refused .ensures in
     rw (lt-ltb (length (a .kept .now)) loaderSize (c .before .if1 .taken))
     (e, (leaves _ _ _ 252 e refl, (leaves _ _ _ 252 e refl, leaves _ _ _ 252 e refl)))
-
-refused-requires-2 : tie.Need-refused-requires-2
-refused-requires-2 c κs = search needs
 
 returns-2 : tie.Need-returns-2
 returns-2 c =
@@ -67,31 +61,22 @@ returns-2 c =
     rw (le-ltb (length (a .kept .now)) loaderSize (c .before .before .if1 .left), lt-ltb 2 (a .mode) (c .before .if2 .taken))
     (e, (leaves _ _ _ 253 e refl, (leaves _ _ _ 253 e refl, leaves _ _ _ 253 e refl)))
 
-mode-of-requires : tie.Need-mode-of-requires
-mode-of-requires c κs = search needs
-
-begin-requires : tie.Need-begin-requires
-begin-requires c κs = search needs
-
-call-of-requires : tie.Need-call-of-requires
-call-of-requires c κs = search needs
-
-fields-of-requires : tie.Need-fields-of-requires
-fields-of-requires c κs = search needs
-
 put-numbers-requires : tie.Need-put-numbers-requires
 put-numbers-requires c κs = omega (arith, c .before .before .before .before .before .before .before .before .before .before .before .before .before .before .if1 .left)
 
 put-sides-requires : tie.Need-put-sides-requires
 put-sides-requires c κs =
-    let e = c .before .before .before .put-numbers .ensures in
-    omega (arith, c .before .before .before .before .before .before .before .before .before .before .before .before .before .before .before .before .before .before .if1 .left, ap length e, putAt-length (c .before .before .before .before .before .before .before .before .before .before .before .before .before .before .before .before .before .before .before .before .before .args .kept .now) 0 (numberBytes (c .before .before .before .before .before .before .before .fields-of .result)))
-
-same-length : tie.Need-same-length
-same-length c = search needs
-
-same-length-2 : tie.Need-same-length-2
-same-length-2 c = search needs
+    let after-put-numbers = c .before .before .before in
+    let after-fields-of = after-put-numbers .before .before .before .before in
+    let after-if1 = after-fields-of .before .before .before .before .before .before .before .before .before .before .before in
+    let start = after-if1 .before .before .before in
+    let e = after-put-numbers .put-numbers .ensures in
+    omega (
+      arith,
+      after-if1 .if1 .left,
+      ap length e,
+      putAt-length (start .args .kept .now) 0 (numberBytes (after-fields-of .fields-of .result)),
+    )
 
 returns-3 : tie.Need-returns-3
 returns-3 c =
@@ -119,13 +104,11 @@ returns-3 c =
         told .1 ∙ given-as _ _ _ z,
         (
           put ∙ given-as _ _ _ z,
-          ap writerIn put ∙ begin-after k (a .slot) (a .channels) (modeOf (a .mode)) (a .lent .now) room (b .before .before .before .before .before .before .before .fits .channels .fits) due ∙ given-as _ _ _ z,
+          ap writerIn put ∙ begin-after k (a .slot) (a .channels) (modeOf (a .mode)) (a .lent .now) room (b .before .before .before .before .before .before .before .fits .channels .fits) due
+              ∙ given-as _ _ _ z,
         ),
       ),
     )
-
-same-length-3 : tie.Need-same-length-3
-same-length-3 c = search needs
 
 returns-4 : tie.Need-returns-4
 returns-4 c =
@@ -148,18 +131,18 @@ pub begin-kept-spec : {M : Type 1} → statement M
 begin-kept-spec =
     tie.close
     (tie.spec
-    refused-requires
+    (λ c κs. search needs)
     returns
-    refused-requires-2
+    (λ c κs. search needs)
     returns-2
-    mode-of-requires
-    begin-requires
-    call-of-requires
-    fields-of-requires
+    (λ c κs. search needs)
+    (λ c κs. search needs)
+    (λ c κs. search needs)
+    (λ c κs. search needs)
     put-numbers-requires
     put-sides-requires
-    same-length
-    same-length-2
+    (λ c. search needs)
+    (λ c. search needs)
     returns-3
-    same-length-3
+    (λ c. search needs)
     returns-4)

@@ -20,15 +20,6 @@ use Rattle.c_loading.proofs.refused.Reads as refused-reads
 use Rattle.c_record_put.proofs.table.put_table.Reads as put-table-reads
 use Rattle.c_record.proofs.loader.writer_in.Reads as writer-in-reads
 
-writer-in-requires : tie.Need-writer-in-requires
-writer-in-requires c κs = search needs
-
-refused-requires : tie.Need-refused-requires
-refused-requires c κs = search needs
-
-same-length : tie.Need-same-length
-same-length c = search needs
-
 returns : tie.Need-returns
 returns c =
     let s = c .before .before .before .before .before .before in
@@ -50,14 +41,8 @@ some e z = e .if1 .left (ap (λ (m : HpsWriter). m .setup .slot) (e .before .bef
 answered : (c : tie.After-call-of) → let s = c .before .before .before .before .before .before .before .before in c .call-of .result ≡ callOf (cueOf (writerIn (s .args .kept .now)) (s .args .c))
 answered c = c .call-of .ensures ∙ ap (λ (q : Called). callIn (q .reply)) (told (c .before .before))
 
-call-of-requires : tie.Need-call-of-requires
-call-of-requires c κs = search needs
-
 put-table-requires : tie.Need-put-table-requires
 put-table-requires c κs = let e = c .before .before .before .before .before .before .before in (search needs, holds (e .before .before .before .before .before .args .kept .now) (some e) .room)
-
-same-length-2 : tie.Need-same-length-2
-same-length-2 c = search needs
 
 returns-2 : tie.Need-returns-2
 returns-2 c =
@@ -76,9 +61,6 @@ returns-2 c =
       ),
     )
 
-same-length-3 : tie.Need-same-length-3
-same-length-3 c = search needs
-
 returns-3 : tie.Need-returns-3
 returns-3 c =
     let d = c .before .before in
@@ -92,14 +74,14 @@ pub cue-kept-spec : {M : Type 1} → statement M
 cue-kept-spec =
     tie.close
     (tie.spec
-    writer-in-requires
-    refused-requires
-    same-length
+    (λ c κs. search needs)
+    (λ c κs. search needs)
+    (λ c. search needs)
     returns
     cue-requires
-    call-of-requires
+    (λ c κs. search needs)
     put-table-requires
-    same-length-2
+    (λ c. search needs)
     returns-2
-    same-length-3
+    (λ c. search needs)
     returns-3)

@@ -20,15 +20,6 @@ use Rattle.c_loading.proofs.refused.Reads as refused-reads
 use Rattle.c_record_put.proofs.numbers.put_finished.Reads as put-finished-reads
 use Rattle.c_record.proofs.loader.writer_in.Reads as writer-in-reads
 
-writer-in-requires : tie.Need-writer-in-requires
-writer-in-requires c κs = search needs
-
-refused-requires : tie.Need-refused-requires
-refused-requires c κs = search needs
-
-same-length : tie.Need-same-length
-same-length c = search needs
-
 returns : tie.Need-returns
 returns c =
     let s = c .before .before .before .before .before .before .before in
@@ -54,20 +45,9 @@ told u =
 some : (e : tie.Else1) → streamIn (e .before .before .before .before .before .before .args .kept .now) .slot ≡ 0 → ⊥
 some e z = e .if1 .left (ap (λ (m : HpsWriter). m .setup .slot) (e .before .before .writer-in .ensures) ∙ z)
 
-answered : (c : tie.After-call-of) → let s = c .before .before .before .before .before .before .before .before .before .before .before in c .call-of .result ≡ callOf (finishOf (writerIn (s .args .kept .now)) (s .args .lent .now))
+answered : (c : tie.After-call-of) → let s = c .before .before .before .before .before .before .before .before .before .before .before in
+    c .call-of .result ≡ callOf (finishOf (writerIn (s .args .kept .now)) (s .args .lent .now))
 answered c = c .call-of .ensures ∙ ap (λ (q : Called). callIn (q .reply)) (told (c .before .before .before) .0)
-
-call-of-requires : tie.Need-call-of-requires
-call-of-requires c κs = search needs
-
-put-finished-requires : tie.Need-put-finished-requires
-put-finished-requires c κs = search needs
-
-same-length-2 : tie.Need-same-length-2
-same-length-2 c = search needs
-
-same-length-3 : tie.Need-same-length-3
-same-length-3 c = search needs
 
 returns-2 : tie.Need-returns-2
 returns-2 c =
@@ -87,12 +67,6 @@ returns-2 c =
       ),
     )
 
-same-length-4 : tie.Need-same-length-4
-same-length-4 c = search needs
-
-same-length-5 : tie.Need-same-length-5
-same-length-5 c = search needs
-
 returns-3 : tie.Need-returns-3
 returns-3 c =
     let d = c .before .before in
@@ -111,16 +85,16 @@ pub finish-kept-spec : {M : Type 1} → statement M
 finish-kept-spec =
     tie.close
     (tie.spec
-    writer-in-requires
-    refused-requires
-    same-length
+    (λ c κs. search needs)
+    (λ c κs. search needs)
+    (λ c. search needs)
     returns
     finish-requires
-    call-of-requires
-    put-finished-requires
-    same-length-2
-    same-length-3
+    (λ c κs. search needs)
+    (λ c κs. search needs)
+    (λ c. search needs)
+    (λ c. search needs)
     returns-2
-    same-length-4
-    same-length-5
+    (λ c. search needs)
+    (λ c. search needs)
     returns-3)

@@ -95,7 +95,8 @@ worked p =
       takes = takes (p .before .before .before);
       loops =
           ap
-          (λ (b : Bool). loopFrom (streamIn k .loopat) (streamIn k .offset) (loopsHere (streamIn k .mode) b (p .before .before .before .take-kept .result .asked) (p .before .before .before .before .before .block-end .result) (s .args .last)))
+          (λ (b : Bool). loopFrom (streamIn k .loopat) (streamIn k .offset)
+          (loopsHere (streamIn k .mode) b (p .before .before .before .take-kept .result .asked) (p .before .before .before .before .before .block-end .result) (s .args .last)))
           (p .before .held-kept .ensures ∙ ap (λ (m : Fields). heldIn (m .mode) (m .loopat) (anyLoop (slice 0 (m .count) (tableIn k cuesAt (m .count))))) (stream e))
           ∙ loop-same (streamIn k .mode) (streamIn k .loopat) _ _ _ _ _;
       plans =
@@ -104,7 +105,8 @@ worked p =
           let held = p .before .held-kept .result in
           let end = p .before .before .before .before .before .block-end .result in
           let is = parts (p .before .before .before .before .before .before) in
-          λ i. planOf (is .0 i) (is .1 i) t held end (s .args .channels) (s .args .left) (s .args .right) (length (s .args .left-data .now)) (length (s .args .right-data .now)) (s .args .last) (length (s .args .lent .now)));
+          λ i. planOf (is .0 i) (is .1 i) t held end (s .args .channels) (s .args .left) (s .args .right) (length (s .args .left-data .now)) (length (s .args .right-data .now))
+          (s .args .last) (length (s .args .lent .now)));
     }
 
 -- the bytes hold a record
@@ -143,15 +145,6 @@ right-fits z =
 
 -- ---- The needs
 
-stream-in-requires : tie.Need-stream-in-requires
-stream-in-requires c κs = search needs
-
-refused-requires : tie.Need-refused-requires
-refused-requires c κs = search needs
-
-same-length : tie.Need-same-length
-same-length c = search needs
-
 returns : tie.Need-returns
 returns c =
     let s = c .before .before .before .before .before .before .before .before .before in
@@ -159,15 +152,6 @@ returns c =
     let h : streamIn k .slot ≡ 0 = sym (ap (λ (m : Fields). m .slot) (c .before .before .before .stream-in .ensures)) ∙ c .before .if1 .taken in
     let e = c .refused .ensures in
     (no-record k (pushOf (writerIn k) (pushed s) (s .args .lent .now)) h _ e, leaves _ _ _ 254 e refl, leaves _ _ _ 254 e refl, leaves _ _ _ 254 e refl)
-
-setup-of-requires : tie.Need-setup-of-requires
-setup-of-requires c κs = search needs
-
-stream-of-requires : tie.Need-stream-of-requires
-stream-of-requires c κs = search needs
-
-block-end-requires : tie.Need-block-end-requires
-block-end-requires c κs = search needs
 
 take-kept-requires : tie.Need-take-kept-requires
 take-kept-requires c κs = let e = ended (c .before) in let g = kept-good (start e .args .kept .now) in rw (stream e) (g .placed, g .few)
@@ -182,12 +166,6 @@ plan-push-requires c κs =
     let is = parts (c .before .before .before .before .before) in
     rw (is .0, is .1) (parts-good (writerIn k) (kept-good k))
 
-refused-requires-2 : tie.Need-refused-requires-2
-refused-requires-2 c κs = search needs
-
-same-length-2 : tie.Need-same-length-2
-same-length-2 c = search needs
-
 returns-2 : tie.Need-returns-2
 returns-2 c =
     let p = c .before .before .before in
@@ -198,9 +176,6 @@ returns-2 c =
     let i = c .refused2 .ensures in
     let t = ne-eqb _ 0 (c .before .if2 .taken) in
     (i ∙ on-record k (pushOf (writerIn k) (pushed s) (s .args .lent .now)) (some e) _ (ap (λ (x : Called). callIn (x .reply)) (q .0)), leaves _ _ _ _ i t, leaves _ _ _ _ i t, leaves _ _ _ _ i t)
-
-put-header-requires : tie.Need-put-header-requires
-put-header-requires c κs = search needs
 
 put-taken-kept-requires : tie.Need-put-taken-kept-requires
 put-taken-kept-requires c κs =
@@ -214,19 +189,10 @@ put-taken-kept-requires c κs =
       (rw (stream e) (are-taken (writerIn k) g _ _ _ (w .takes)), omega (arith, totals w (d .if2 .left), room w (d .if2 .left) .1)),
     )
 
-put-data-requires : tie.Need-put-data-requires
-put-data-requires c κs = search needs
-
-with-stream-requires : tie.Need-with-stream-requires
-with-stream-requires c κs = search needs
-
 put-pushed-requires : tie.Need-put-pushed-requires
 put-pushed-requires c κs =
     let e = planned (c .before .before .before .before .before .before .before .before .before .before .before .before .before .before .before .before .before .before .before) in
     omega (arith, holds (start e .args .kept .now) (some e) .room)
-
-same-length-3 : tie.Need-same-length-3
-same-length-3 c = search needs
 
 same-length-4 : tie.Need-same-length-4
 same-length-4 c =
@@ -244,39 +210,47 @@ returns-3 c =
     let k = s .args .kept .now in
     let w = worked p in
     let z = d .if2 .left in
-    let put = c .before .before .before .before .before .before .before .before .before .before .before .before .put-taken-kept .ensures
-    ∙ ap (λ (m : Fields). putAt (c .before .before .before .before .before .before .before .before .before .before .before .before .before .before .before .before .before .put-header .last .0) 32 (filledBytes (m .base) (m .id) (slice (m .next) (p .before .before .before .take-kept .result .to) (tableIn k cuesAt (m .count))))) (stream e) in
-    let b = bytes-are w z _ _ _ (c .before .before .before .before .before .before .before .before .before .before .before .before .before .before .before .before .before .put-header .ensures) put (c .before .before .before .before .before .before .before .before .put-data .ensures) in
+    let after-put-data = c .before .before .before .before .before .before .before .before in
+    let after-put-taken = after-put-data .before .before .before .before in
+    let after-put-header = after-put-taken .before .before .before .before .before in
+    let taken-to = p .before .before .before .take-kept .result .to in
+    let put = after-put-taken .put-taken-kept .ensures
+    ∙ ap (λ (m : Fields). putAt (after-put-header .put-header .last .0) 32 (filledBytes (m .base) (m .id) (slice (m .next) taken-to (tableIn k cuesAt (m .count))))) (stream e) in
+    let b = bytes-are w z _ _ _ (after-put-header .put-header .ensures) put (after-put-data .put-data .ensures) in
     let q = push-accepted (writerIn k) (pushed s) (s .args .lent .now) _ (due-is w) z _ _ _ refl (sized w z) (room w z .1) b in
     let r = on-record k (pushOf (writerIn k) (pushed s) (s .args .lent .now)) (some e) _ (ap (λ (x : Called). callIn (x .reply)) (q .0)) in
     let after = c .before .before .put-pushed .ensures
     ∙ ap (λ (m : Fields). putAt k 0 (pushedBytes m)) (c .before .before .before .before .with-stream .ensures ∙ ap (λ (m : Fields). fieldsWith m (p .plan-push .result .after)) (stream e)) in
     let long : streamIn k .channels < 18446744073709551616 = omega (arith, channels e, ap (λ (m : Fields). m .channels) (stream e)) in
-    let stays = push-stream k (some e) w z (left-fits s) (right-fits s) long in
-    (ap (λ (m : Fields). record { number = 0; offset = m .offset; length = p .plan-push .result .size }) (stream e) ∙ r, q .1, after ∙ ap (λ (m : Fields). putAt k 0 (pushedBytes m)) stays, ap writerIn after ∙ push-after k (some e) w z (left-fits s) (right-fits s) long)
+    let stays = push-stream k (some e) w z (left-fits s) (right-fits s) long in (
+      ap (λ (m : Fields). record { number = 0; offset = m .offset; length = p .plan-push .result .size }) (stream e) ∙ r,
+      q .1,
+      after ∙ ap (λ (m : Fields). putAt k 0 (pushedBytes m)) stays,
+      ap writerIn after ∙ push-after k (some e) w z (left-fits s) (right-fits s) long,
+    )
 
 pub push-kept-spec : {M : Type 1} → statement M
 push-kept-spec =
     tie.close
     (tie.spec
-    stream-in-requires
-    refused-requires
-    same-length
+    (λ c κs. search needs)
+    (λ c κs. search needs)
+    (λ c. search needs)
     returns
-    setup-of-requires
-    stream-of-requires
-    block-end-requires
+    (λ c κs. search needs)
+    (λ c κs. search needs)
+    (λ c κs. search needs)
     take-kept-requires
     held-kept-requires
     plan-push-requires
-    refused-requires-2
-    same-length-2
+    (λ c κs. search needs)
+    (λ c. search needs)
     returns-2
-    put-header-requires
+    (λ c κs. search needs)
     put-taken-kept-requires
-    put-data-requires
-    with-stream-requires
+    (λ c κs. search needs)
+    (λ c κs. search needs)
     put-pushed-requires
-    same-length-3
+    (λ c. search needs)
     same-length-4
     returns-3)

@@ -8,9 +8,6 @@ use Rattle.c_push.proofs.without_side.Reads as reads
 use Rattle.c_push.proofs.without_side.Lts as lts
 use Rattle.c_record.proofs.loader.stream_in.Reads as stream-in-reads
 
-stream-in-requires : tie.Need-stream-in-requires
-stream-in-requires c κs = search needs
-
 returns : tie.Need-returns
 returns c = rw (eq-eqb _ 0 (sym (ap (λ (m : Fields). m .slot) (c .before .before .stream-in .ensures)) ∙ c .if1 .taken))
 
@@ -18,4 +15,4 @@ returns-2 : tie.Need-returns-2
 returns-2 c = rw (ne-eqb _ 0 (λ z. c .if1 .left (ap (λ (m : Fields). m .slot) (c .before .before .stream-in .ensures) ∙ z)))
 
 pub without-side-spec : {M : Type 1} → statement M
-without-side-spec = tie.close (tie.spec stream-in-requires returns returns-2)
+without-side-spec = tie.close (tie.spec (λ c κs. search needs) returns returns-2)

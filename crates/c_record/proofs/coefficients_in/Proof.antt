@@ -18,27 +18,6 @@ abbrev μ-loop : tie.MeasureT-loop
 loop-holds : tie.Need-loop-holds Inv-loop μ-loop
 loop-holds c = signed-start _ _
 
-mul-signed : tie.Need-mul-signed Inv-loop μ-loop
-mul-signed c = search needs
-
-add-signed : tie.Need-add-signed Inv-loop μ-loop
-add-signed c = search needs
-
-signed-requires : tie.Need-signed-requires Inv-loop μ-loop
-signed-requires c κs = search needs
-
-mul-coefficients : tie.Need-mul-coefficients Inv-loop μ-loop
-mul-coefficients c = search needs
-
-array-set-from-coefficients : tie.Need-array-set-from-coefficients Inv-loop μ-loop
-array-set-from-coefficients c = search needs
-
-add-i : tie.Need-add-i Inv-loop μ-loop
-add-i c = search needs
-
-loop-less : tie.Need-loop-less Inv-loop μ-loop
-loop-less c = search needs
-
 loop-again : tie.Need-loop-again Inv-loop μ-loop
 loop-again c = signed-again _ _ _ _ _ (c .before .before .loop .inv) (c .before .loop-test .taken) (toZ-ofZ (record { sfits = c .signed .ok }) ∙ c .signed .ensures)
 
@@ -52,12 +31,12 @@ coefficients-in-spec =
     Inv-loop
     μ-loop
     loop-holds
-    mul-signed
-    add-signed
-    signed-requires
-    mul-coefficients
-    array-set-from-coefficients
-    add-i
-    loop-less
+    (λ c. search needs)
+    (λ c. search needs)
+    (λ c κs. search needs)
+    (λ c. search needs)
+    (λ c. search needs)
+    (λ c. search needs)
+    (λ c. search needs)
     loop-again
     returns)

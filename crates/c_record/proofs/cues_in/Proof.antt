@@ -17,27 +17,6 @@ abbrev μ-loop : tie.MeasureT-loop
 loop-holds : tie.Need-loop-holds Inv-loop μ-loop
 loop-holds c = (cues-start _ _, omega arith)
 
-mul-cue-in : tie.Need-mul-cue-in Inv-loop μ-loop
-mul-cue-in c = search needs
-
-add-cue-in : tie.Need-add-cue-in Inv-loop μ-loop
-add-cue-in c = search needs
-
-cue-in-requires : tie.Need-cue-in-requires Inv-loop μ-loop
-cue-in-requires c κs = search needs
-
-mul-cues : tie.Need-mul-cues Inv-loop μ-loop
-mul-cues c = search needs
-
-array-set-from-cues : tie.Need-array-set-from-cues Inv-loop μ-loop
-array-set-from-cues c = search needs
-
-add-i : tie.Need-add-i Inv-loop μ-loop
-add-i c = search needs
-
-loop-less : tie.Need-loop-less Inv-loop μ-loop
-loop-less c = search needs
-
 loop-again : tie.Need-loop-again Inv-loop μ-loop
 loop-again c = (cues-again _ _ _ _ _ (c .before .before .loop .inv .0) (omega arith) (c .cue-in .ensures), omega arith)
 
@@ -51,12 +30,12 @@ cues-in-spec =
     Inv-loop
     μ-loop
     loop-holds
-    mul-cue-in
-    add-cue-in
-    cue-in-requires
-    mul-cues
-    array-set-from-cues
-    add-i
-    loop-less
+    (λ c. search needs)
+    (λ c. search needs)
+    (λ c κs. search needs)
+    (λ c. search needs)
+    (λ c. search needs)
+    (λ c. search needs)
+    (λ c. search needs)
     loop-again
     returns)

@@ -15,23 +15,11 @@ left z = search needs
 right : (z : tie.Start) → length (z .args .s .right .coefficients) ≡ 16
 right z = search needs
 
-put-numbers-requires : tie.Need-put-numbers-requires
-put-numbers-requires c κs = search needs
-
-put-sides-requires : tie.Need-put-sides-requires
-put-sides-requires c κs = search needs
-
-same-length : tie.Need-same-length
-same-length c = search needs
-
 returns : tie.Need-returns
 returns c =
     let z = c .before .before .before .before .before .before .before .before .before .before .before .before .before in
     let n = c .before .before .before .before .before .before .before .before .before .before .put-numbers .ensures in
     first-put _ _ (z .args .s) n (c .before .before .before .before .before .before .if1 .taken) (record-put _ _ (z .args .s) n (z .pre) (left z) (right z) (c .before .before .put-sides .ensures))
-
-same-length-2 : tie.Need-same-length-2
-same-length-2 c = search needs
 
 returns-2 : tie.Need-returns-2
 returns-2 c = later-put _ _ (c .before .before .before .before .before .before .before .args .s) (c .before .before .before .before .put-numbers .ensures) (c .if1 .left)
@@ -39,4 +27,4 @@ returns-2 c = later-put _ _ (c .before .before .before .before .before .before .
 pub put-pushed-spec : {M : Type 1} → statement M
 put-pushed-spec =
     tie.close
-    (tie.spec put-numbers-requires put-sides-requires same-length returns same-length-2 returns-2)
+    (tie.spec (λ c κs. search needs) (λ c κs. search needs) (λ c. search needs) returns (λ c. search needs) returns-2)

@@ -14,57 +14,31 @@ use Rattle.layout_put_header.proofs.put_coefficients.Reads as put-coefficients-
 sixteen : (z : tie.Start) → length (z .args .side .coefficients) ≡ 16
 sixteen z = search needs
 
-put-u32-requires : tie.Need-put-u32-requires
-put-u32-requires c κs = search needs
-
-add-put-u32 : tie.Need-add-put-u32
-add-put-u32 c = search needs
-
-cast-put-u32 : tie.Need-cast-put-u32
-cast-put-u32 c = search needs
-
-put-u32-requires-2 : tie.Need-put-u32-requires-2
-put-u32-requires-2 c κs = search needs
-
-add-put-coefficients : tie.Need-add-put-coefficients
-add-put-coefficients c = search needs
-
-put-coefficients-requires : tie.Need-put-coefficients-requires
-put-coefficients-requires c κs = search needs
-
-add-put-u16 : tie.Need-add-put-u16
-add-put-u16 c = search needs
-
-put-u16-requires : tie.Need-put-u16-requires
-put-u16-requires c κs = search needs
-
-add-put-context : tie.Need-add-put-context
-add-put-context c = search needs
-
-put-context-requires : tie.Need-put-context-requires
-put-context-requires c κs = search needs
-
-same-length : tie.Need-same-length
-same-length c = search needs
-
 returns : tie.Need-returns
 returns c =
-    let z = c .before .before .before .before .before .before .before .before .before .before .before .before .before .before .before .before .before .before .before .before .before .before .before .before in
-    side-put _ _ _ _ _ (z .args .at) (z .args .side) (z .pre .1) (sixteen z) (c .before .before .before .before .before .before .before .before .before .before .before .before .before .before .before .before .before .before .before .before .before .put-u32 .ensures) (c .before .before .before .before .before .before .before .before .before .before .before .before .before .before .before .before .put-u322 .ensures) (c .before .before .before .before .before .before .before .before .before .before .before .put-coefficients .ensures) (c .before .before .before .before .before .before .before .put-u16 .ensures) (c .before .before .put-context .ensures)
+    let after-put-context = c .before .before in
+    let after-put-u16 = after-put-context .before .before .before .before .before in
+    let after-put-coefficients = after-put-u16 .before .before .before .before in
+    let after-put-u322 = after-put-coefficients .before .before .before .before .before in
+    let after-put-u32 = after-put-u322 .before .before .before .before .before in
+    let z = after-put-u32 .before .before .before in
+    side-put _ _ _ _ _ (z .args .at) (z .args .side) (z .pre .1) (sixteen z)
+    (after-put-u32 .put-u32 .ensures) (after-put-u322 .put-u322 .ensures) (after-put-coefficients .put-coefficients .ensures) (after-put-u16 .put-u16 .ensures)
+    (after-put-context .put-context .ensures)
 
 pub put-side-spec : {M : Type 1} → statement M
 put-side-spec =
     tie.close
     (tie.spec
-    put-u32-requires
-    add-put-u32
-    cast-put-u32
-    put-u32-requires-2
-    add-put-coefficients
-    put-coefficients-requires
-    add-put-u16
-    put-u16-requires
-    add-put-context
-    put-context-requires
-    same-length
+    (λ c κs. search needs)
+    (λ c. search needs)
+    (λ c. search needs)
+    (λ c κs. search needs)
+    (λ c. search needs)
+    (λ c κs. search needs)
+    (λ c. search needs)
+    (λ c κs. search needs)
+    (λ c. search needs)
+    (λ c κs. search needs)
+    (λ c. search needs)
     returns)

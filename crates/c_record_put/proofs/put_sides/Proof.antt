@@ -14,19 +14,10 @@ first z = search needs
 second : (z : tie.Start) → length (z .args .right .coefficients) ≡ 16
 second z = search needs
 
-put-side-requires : tie.Need-put-side-requires
-put-side-requires c κs = search needs
-
-put-side-requires-2 : tie.Need-put-side-requires-2
-put-side-requires-2 c κs = search needs
-
-same-length : tie.Need-same-length
-same-length c = search needs
-
 returns : tie.Need-returns
 returns c =
     let z = c .before .before .before .before .before .before .before .before .before in
     sides-put _ _ (z .args .left) (z .args .right) (z .pre) (first z) (second z) (c .before .before .before .before .before .before .put-side .ensures) (c .before .before .put-side2 .ensures)
 
 pub put-sides-spec : {M : Type 1} → statement M
-put-sides-spec = tie.close (tie.spec put-side-requires put-side-requires-2 same-length returns)
+put-sides-spec = tie.close (tie.spec (λ c κs. search needs) (λ c κs. search needs) (λ c. search needs) returns)

@@ -5,41 +5,14 @@ use Rattle.cut_answer.proofs.RunLaws.{copy-first, copy-length}
 use Rattle.cut_answer.proofs.answer_script.Statement.{statement}
 use Rattle.cut_answer.proofs.answer_script.Tie as tie
 
-log-room-requires : tie.Need-log-room-requires
-log-room-requires c κs = search needs
-
-is-all-requires : tie.Need-is-all-requires
-is-all-requires c κs = search needs
-
-slice-aggregate-load : tie.Need-slice-aggregate-load
-slice-aggregate-load c = search needs
-
-load-requires : tie.Need-load-requires
-load-requires c κs = search needs
-
 returns : tie.Need-returns
 returns c = search needs
-
-slot-room-requires : tie.Need-slot-room-requires
-slot-room-requires c κs = search needs
 
 returns-2 : tie.Need-returns-2
 returns-2 c = search needs
 
-slice-aggregate-put-bytes : tie.Need-slice-aggregate-put-bytes
-slice-aggregate-put-bytes c = search needs
-
-put-bytes-requires : tie.Need-put-bytes-requires
-put-bytes-requires c κs = search needs
-
-array-borrow-prefix-slot : tie.Need-array-borrow-prefix-slot
-array-borrow-prefix-slot c = search needs
-
 slice-aggregate-show : tie.Need-slice-aggregate-show
 slice-aggregate-show c = copy-length _ _ (search needs) (c .before .before .before .put-bytes .ensures)
-
-slice-aggregate-show-2 : tie.Need-slice-aggregate-show-2
-slice-aggregate-show-2 c = search needs
 
 show-requires : tie.Need-show-requires
 show-requires c κs =
@@ -56,17 +29,17 @@ pub answer-script-spec : {M : Type 1} → statement M
 answer-script-spec =
     tie.close
     (tie.spec
-    log-room-requires
-    is-all-requires
-    slice-aggregate-load
-    load-requires
+    (λ c κs. search needs)
+    (λ c κs. search needs)
+    (λ c. search needs)
+    (λ c κs. search needs)
     returns
-    slot-room-requires
+    (λ c κs. search needs)
     returns-2
-    slice-aggregate-put-bytes
-    put-bytes-requires
-    array-borrow-prefix-slot
+    (λ c. search needs)
+    (λ c κs. search needs)
+    (λ c. search needs)
     slice-aggregate-show
-    slice-aggregate-show-2
+    (λ c. search needs)
     show-requires
     returns-3)

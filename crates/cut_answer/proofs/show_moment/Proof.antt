@@ -4,20 +4,14 @@ use Rattle.cut_answer.proofs.RunLaws.{slot-log}
 use Rattle.cut_answer.proofs.show_moment.Statement.{statement}
 use Rattle.cut_answer.proofs.show_moment.Tie as tie
 
-report-last-requires : tie.Need-report-last-requires
-report-last-requires c κs = search needs
-
 returns : tie.Need-returns
 returns c = search needs
 
-slot-at-requires : tie.Need-slot-at-requires
-slot-at-requires c κs = search needs
-
 print-slot-requires : tie.Need-print-slot-requires
-print-slot-requires c κs = slot-log (c .before .before .before .before .before .before .before .before .before .before .before .args .j) (now (c .before .before .before .before .before .before .before .before .before .before .before .args .logged)) _ (c .before .before .before .before .before .before .before .before .before .before .before .pre .0) (c .before .before .before .before .before .before .before .before .before .before .before .pre .1) (c .before .before .before .slot-at .ensures)
-
-same-length : tie.Need-same-length
-same-length c = search needs
+print-slot-requires c κs = slot-log (c .before .before .before .before .before .before .before .before .before .before .before .args .j)
+    (now (c .before .before .before .before .before .before .before .before .before .before .before .args .logged)) _
+    (c .before .before .before .before .before .before .before .before .before .before .before .pre .0)
+    (c .before .before .before .before .before .before .before .before .before .before .before .pre .1) (c .before .before .before .slot-at .ensures)
 
 returns-2 : tie.Need-returns-2
 returns-2 c = search needs
@@ -26,9 +20,9 @@ pub show-moment-spec : {M : Type 1} → statement M
 show-moment-spec =
     tie.close
     (tie.spec
-    report-last-requires
+    (λ c κs. search needs)
     returns
-    slot-at-requires
+    (λ c κs. search needs)
     print-slot-requires
-    same-length
+    (λ c. search needs)
     returns-2)

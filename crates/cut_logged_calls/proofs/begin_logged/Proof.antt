@@ -3,35 +3,21 @@ use Rattle.cut_logged_calls.proofs.TallyLaws.{lent-is, lent-length}
 use Rattle.cut_logged_calls.proofs.begin_logged.Statement.{statement}
 use Rattle.cut_logged_calls.proofs.begin_logged.Tie as tie
 
-zeros-requires : tie.Need-zeros-requires
-zeros-requires c κs = search needs
-
-least-requires : tie.Need-least-requires
-least-requires c κs = search needs
-
-array-borrow-prefix-lent : tie.Need-array-borrow-prefix-lent
-array-borrow-prefix-lent c = search needs
-
 slice-aggregate-begin-with : tie.Need-slice-aggregate-begin-with
 slice-aggregate-begin-with c = lent-length _ (c .before .before .zeros .ensures) (c .before .least .ensures)
 
-begin-with-requires : tie.Need-begin-with-requires
-begin-with-requires c κs = search needs
-
-same-length : tie.Need-same-length
-same-length c = search needs
-
 returns : tie.Need-returns
-returns c = rw (← lent-is _ (c .before .before .before .before .before .before .before .zeros .ensures) (c .before .before .before .before .before .before .least .ensures)) (c .before .before .before .begin-with .ensures)
+returns c = rw (← lent-is _ (c .before .before .before .before .before .before .before .zeros .ensures) (c .before .before .before .before .before .before .least .ensures))
+    (c .before .before .before .begin-with .ensures)
 
 pub begin-logged-spec : {M : Type 1} → statement M
 begin-logged-spec =
     tie.close
     (tie.spec
-    zeros-requires
-    least-requires
-    array-borrow-prefix-lent
+    (λ c κs. search needs)
+    (λ c κs. search needs)
+    (λ c. search needs)
     slice-aggregate-begin-with
-    begin-with-requires
-    same-length
+    (λ c κs. search needs)
+    (λ c. search needs)
     returns)

@@ -3,35 +3,21 @@ use Rattle.cut_logged_calls.proofs.TallyLaws.{lent-is, lent-length}
 use Rattle.cut_logged_calls.proofs.finish_logged.Statement.{statement}
 use Rattle.cut_logged_calls.proofs.finish_logged.Tie as tie
 
-zeros-requires : tie.Need-zeros-requires
-zeros-requires c κs = search needs
-
-least-requires : tie.Need-least-requires
-least-requires c κs = search needs
-
-array-borrow-prefix-lent : tie.Need-array-borrow-prefix-lent
-array-borrow-prefix-lent c = search needs
-
 slice-aggregate-finish-with : tie.Need-slice-aggregate-finish-with
 slice-aggregate-finish-with c = lent-length _ (c .before .before .zeros .ensures) (c .before .least .ensures)
 
-finish-with-requires : tie.Need-finish-with-requires
-finish-with-requires c κs = search needs
-
-same-length : tie.Need-same-length
-same-length c = search needs
-
 returns : tie.Need-returns
-returns c = rw (← lent-is _ (c .before .before .before .before .before .before .before .zeros .ensures) (c .before .before .before .before .before .before .least .ensures)) (c .before .before .before .finish-with .ensures)
+returns c = rw (← lent-is _ (c .before .before .before .before .before .before .before .zeros .ensures) (c .before .before .before .before .before .before .least .ensures))
+    (c .before .before .before .finish-with .ensures)
 
 pub finish-logged-spec : {M : Type 1} → statement M
 finish-logged-spec =
     tie.close
     (tie.spec
-    zeros-requires
-    least-requires
-    array-borrow-prefix-lent
+    (λ c κs. search needs)
+    (λ c κs. search needs)
+    (λ c. search needs)
     slice-aggregate-finish-with
-    finish-with-requires
-    same-length
+    (λ c κs. search needs)
+    (λ c. search needs)
     returns)

@@ -8,47 +8,22 @@ use Rattle.cut_write_log.proofs.WriteLogLaws.{is-logged, log-full, not-
 use Rattle.cut_write_log.proofs.log_write.Statement.{statement}
 use Rattle.cut_write_log.proofs.log_write.Tie as tie
 
-lent-room : (c : tie.Then3) → c .before .before .before .before .before .before .before .args .from + c .before .before .before .before .before .before .before .args .place .length ≤ length (now (c .before .before .before .before .before .before .before .args .lent))
+lent-room : (c : tie.Then3) → c .before .before .before .before .before .before .before .args .from + c .before .before .before .before .before .before .before .args .place .length ≤ length
+    (now (c .before .before .before .before .before .before .before .args .lent))
 lent-room c = passed (c .before .before .before .inside .ensures) (c .before .before .if2 .taken)
 
-logged-room : (c : tie.Then3) → c .before .before .before .before .before .before .before .args .j .total + c .before .before .before .before .before .before .before .args .place .length ≤ length (now (c .before .before .before .before .before .before .before .args .logged))
+logged-room : (c : tie.Then3) → c .before .before .before .before .before .before .before .args .j .total + c .before .before .before .before .before .before .before .args .place .length
+    ≤ length (now (c .before .before .before .before .before .before .before .args .logged))
 logged-room c = passed (c .before .inside2 .ensures) (c .if3 .taken)
-
-inside-requires : tie.Need-inside-requires
-inside-requires c κs = search needs
-
-inside-requires-2 : tie.Need-inside-requires-2
-inside-requires-2 c κs = search needs
 
 add-end : tie.Need-add-end
 add-end c = let h = lent-room c in omega arith
 
-sub-put-bytes : tie.Need-sub-put-bytes
-sub-put-bytes c = search needs
-
-part-put-bytes-start : tie.Need-part-put-bytes-start
-part-put-bytes-start c = search needs
-
 part-put-bytes-end : tie.Need-part-put-bytes-end
 part-put-bytes-end c = let h = lent-room (c .before) in omega arith
 
-put-bytes-requires : tie.Need-put-bytes-requires
-put-bytes-requires c κs = search needs
-
-mul-places : tie.Need-mul-places
-mul-places c = search needs
-
-array-set-from-places : tie.Need-array-set-from-places
-array-set-from-places c = search needs
-
-add-t20 : tie.Need-add-t20
-add-t20 c = search needs
-
 add-t25 : tie.Need-add-t25
 add-t25 c = let h = logged-room (c .before .before .before .before .before .before) in omega arith
-
-same-length : tie.Need-same-length
-same-length c = search needs
 
 returns : tie.Need-returns
 returns c =
@@ -70,18 +45,18 @@ pub log-write-spec : {M : Type 1} → statement M
 log-write-spec =
     tie.close
     (tie.spec
-    inside-requires
-    inside-requires-2
+    (λ c κs. search needs)
+    (λ c κs. search needs)
     add-end
-    sub-put-bytes
-    part-put-bytes-start
+    (λ c. search needs)
+    (λ c. search needs)
     part-put-bytes-end
-    put-bytes-requires
-    mul-places
-    array-set-from-places
-    add-t20
+    (λ c κs. search needs)
+    (λ c. search needs)
+    (λ c. search needs)
+    (λ c. search needs)
     add-t25
-    same-length
+    (λ c. search needs)
     returns
     returns-2
     returns-3

@@ -13,21 +13,6 @@ Inv-loop fd s r stage₀ out₀ stage out = length out ≡ 65536
 abbrev μ-loop : tie.MeasureT-loop
 μ-loop fd s r stage₀ out₀ stage out = length (listingFrom s r stage)
 
-start-listing-requires : tie.Need-start-listing-requires Inv-loop μ-loop
-start-listing-requires c κs = search needs
-
-large-buffer-requires : tie.Need-large-buffer-requires Inv-loop μ-loop
-large-buffer-requires c κs = search needs
-
-loop-holds : tie.Need-loop-holds Inv-loop μ-loop
-loop-holds c = search needs
-
-slice-aggregate-fill : tie.Need-slice-aggregate-fill Inv-loop μ-loop
-slice-aggregate-fill c = search needs
-
-fill-requires : tie.Need-fill-requires Inv-loop μ-loop
-fill-requires c κs = search needs
-
 returns : tie.Need-returns Inv-loop μ-loop
 returns c = search needs
 
@@ -46,24 +31,21 @@ returns-2 c = search needs
 loop-less : tie.Need-loop-less Inv-loop μ-loop
 loop-less c = less-listed (c .before .before .before .before .before .fill .ensures) (c .before .before .before .if1 .left)
 
-loop-again : tie.Need-loop-again Inv-loop μ-loop
-loop-again c = search needs
-
 pub print-listing-spec : {M : Type 1} → statement M
 print-listing-spec =
     tie.close
     (tie.spec
     Inv-loop
     μ-loop
-    start-listing-requires
-    large-buffer-requires
-    loop-holds
-    slice-aggregate-fill
-    fill-requires
+    (λ c κs. search needs)
+    (λ c κs. search needs)
+    (λ c. search needs)
+    (λ c. search needs)
+    (λ c κs. search needs)
     returns
     array-share-prefix-out
     slice-aggregate-write-lines
     write-lines-requires
     returns-2
     loop-less
-    loop-again)
+    (λ c. search needs))

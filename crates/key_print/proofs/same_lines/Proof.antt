@@ -24,18 +24,6 @@ loop-holds c = (
   ((record { order = omega arith; inside = omega arith }, record { order = omega arith; inside = omega arith }), (search needs, search needs)),
 )
 
-slice-aggregate-more : tie.Need-slice-aggregate-more Inv-loop μ-loop
-slice-aggregate-more c = search needs
-
-more-requires : tie.Need-more-requires Inv-loop μ-loop
-more-requires c κs = search needs
-
-slice-aggregate-more-2 : tie.Need-slice-aggregate-more-2 Inv-loop μ-loop
-slice-aggregate-more-2 c = search needs
-
-more-requires-2 : tie.Need-more-requires-2 Inv-loop μ-loop
-more-requires-2 c κs = search needs
-
 returns : tie.Need-returns Inv-loop μ-loop
 returns c =
     let n = c .before .before in
@@ -45,27 +33,6 @@ returns c =
       λ t. ended-one p (m .more .ensures) (n .more2 .ensures) (c .if1 .taken) (eqb-false _ _ t),
     )
 
-sub-common : tie.Need-sub-common Inv-loop μ-loop
-sub-common c = search needs
-
-part-common-start : tie.Need-part-common-start Inv-loop μ-loop
-part-common-start c = search needs
-
-part-common-end : tie.Need-part-common-end Inv-loop μ-loop
-part-common-end c = search needs
-
-sub-common-2 : tie.Need-sub-common-2 Inv-loop μ-loop
-sub-common-2 c = search needs
-
-part-common-start-2 : tie.Need-part-common-start-2 Inv-loop μ-loop
-part-common-start-2 c = search needs
-
-part-common-end-2 : tie.Need-part-common-end-2 Inv-loop μ-loop
-part-common-end-2 c = search needs
-
-common-requires : tie.Need-common-requires Inv-loop μ-loop
-common-requires c κs = search needs
-
 returns-2 : tie.Need-returns-2 Inv-loop μ-loop
 returns-2 c =
     let e = c .before .before .before .before .before .before in
@@ -74,12 +41,6 @@ returns-2 c =
       λ t. apart (sym t),
       λ t. apart-here (m .before .before .loop .inv .0) (m .more .ensures) (n .more2 .ensures) (c .before .common .ensures) (c .if2 .taken) (e .if1 .left),
     )
-
-add-left : tie.Need-add-left Inv-loop μ-loop
-add-left c = search needs
-
-add-right : tie.Need-add-right Inv-loop μ-loop
-add-right c = search needs
 
 loop-less : tie.Need-loop-less Inv-loop μ-loop
 loop-less c =
@@ -106,20 +67,20 @@ same-lines-spec =
     Inv-loop
     μ-loop
     loop-holds
-    slice-aggregate-more
-    more-requires
-    slice-aggregate-more-2
-    more-requires-2
+    (λ c. search needs)
+    (λ c κs. search needs)
+    (λ c. search needs)
+    (λ c κs. search needs)
     returns
-    sub-common
-    part-common-start
-    part-common-end
-    sub-common-2
-    part-common-start-2
-    part-common-end-2
-    common-requires
+    (λ c. search needs)
+    (λ c. search needs)
+    (λ c. search needs)
+    (λ c. search needs)
+    (λ c. search needs)
+    (λ c. search needs)
+    (λ c κs. search needs)
     returns-2
-    add-left
-    add-right
+    (λ c. search needs)
+    (λ c. search needs)
     loop-less
     loop-again)

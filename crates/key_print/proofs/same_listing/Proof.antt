@@ -5,24 +5,12 @@ use borrow.Author.Needs.{needs}
 use Rattle.key_print.proofs.same_listing.Statement.{statement}
 use Rattle.key_print.proofs.same_listing.Tie as tie
 
-start-listing-requires : tie.Need-start-listing-requires
-start-listing-requires c κs = search needs
-
-start-listing-requires-2 : tie.Need-start-listing-requires-2
-start-listing-requires-2 c κs = search needs
-
-same-stop-requires : tie.Need-same-stop-requires
-same-stop-requires c κs = search needs
-
 returns : tie.Need-returns
 returns c = (
   λ t. sym (ap flatten (c .before .before .before .start-listing .ensures .0)) ∙ c .before .same-stop .ensures (c .if1 .taken) _ _ _ _
       ∙ ap flatten (c .before .before .start-listing2 .ensures .0),
   λ t. apart t,
 )
-
-same-lines-requires : tie.Need-same-lines-requires
-same-lines-requires c κs = search needs
 
 returns-2 : tie.Need-returns-2
 returns-2 c =
@@ -35,9 +23,9 @@ pub same-listing-spec : {M : Type 1} → statement M
 same-listing-spec =
     tie.close
     (tie.spec
-    start-listing-requires
-    start-listing-requires-2
-    same-stop-requires
+    (λ c κs. search needs)
+    (λ c κs. search needs)
+    (λ c κs. search needs)
     returns
-    same-lines-requires
+    (λ c κs. search needs)
     returns-2)

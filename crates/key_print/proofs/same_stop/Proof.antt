@@ -6,14 +6,8 @@ use borrow.Author.Needs.{needs}
 use Rattle.key_print.proofs.same_stop.Statement.{statement}
 use Rattle.key_print.proofs.same_stop.Tie as tie
 
-enum-known-here : tie.Need-enum-known-here
-enum-known-here c = search needs
-
 returns : tie.Need-returns
 returns c = λ e. apart (sym e)
-
-enum-known-there : tie.Need-enum-known-there
-enum-known-there c = search needs
 
 returns-2 : tie.Need-returns-2
 returns-2 c = λ e. apart (sym e)
@@ -22,4 +16,4 @@ returns-3 : tie.Need-returns-3
 returns-3 c = λ t. same-stops (c .before .before .before .before .here .given .1) (c .before .there .given .1) (eqb-true _ _ t)
 
 pub same-stop-spec : {M : Type 1} → statement M
-same-stop-spec = tie.close (tie.spec enum-known-here returns enum-known-there returns-2 returns-3)
+same-stop-spec = tie.close (tie.spec (λ c. search needs) returns (λ c. search needs) returns-2 returns-3)

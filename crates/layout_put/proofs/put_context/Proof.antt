@@ -17,26 +17,11 @@ use Rattle.layout_put.proofs.put_context.Tie as tie
 room : (c : tie.Then1) → c .before .before .before .args .at + 6 ≤ length (now (c .before .before .before .args .buf))
 room c = passed (c .before .inside .ensures) (c .if1 .taken)
 
-inside-requires : tie.Need-inside-requires
-inside-requires c κs = search needs
-
-put-u16-requires : tie.Need-put-u16-requires
-put-u16-requires c κs = search needs
-
 add-put-i16 : tie.Need-add-put-i16
 add-put-i16 c = let h = room (c .before .before .before .before .before) in omega arith
 
-put-i16-requires : tie.Need-put-i16-requires
-put-i16-requires c κs = search needs
-
 add-put-i16-2 : tie.Need-add-put-i16-2
 add-put-i16-2 c = let h = room (c .before .before .before .before .before .before .before .before .before .before) in omega arith
-
-put-i16-requires-2 : tie.Need-put-i16-requires-2
-put-i16-requires-2 c κs = search needs
-
-same-length : tie.Need-same-length
-same-length c = search needs
 
 returns : tie.Need-returns
 unfolding contextBytes
@@ -59,12 +44,12 @@ pub put-context-spec : {M : Type 1} → statement M
 put-context-spec =
     tie.close
     (tie.spec
-    inside-requires
-    put-u16-requires
+    (λ c κs. search needs)
+    (λ c κs. search needs)
     add-put-i16
-    put-i16-requires
+    (λ c κs. search needs)
     add-put-i16-2
-    put-i16-requires-2
-    same-length
+    (λ c κs. search needs)
+    (λ c. search needs)
     returns
     returns-2)

@@ -5,12 +5,6 @@ use borrow.Author.Needs.{needs}
 use Rattle.layout_put.proofs.put_u8.Statement.{statement}
 use Rattle.layout_put.proofs.put_u8.Tie as tie
 
-slice-write-buf : tie.Need-slice-write-buf
-slice-write-buf c = search needs
-
-same-length : tie.Need-same-length
-same-length c = search needs
-
 returns : tie.Need-returns
 returns c = putAt-byte _ _ _ (c .if1 .taken)
 
@@ -18,4 +12,4 @@ returns-2 : tie.Need-returns-2
 returns-2 c = sym (putAt-out _ _ _ (omega arith))
 
 pub put-u8-spec : {M : Type 1} → statement M
-put-u8-spec = tie.close (tie.spec slice-write-buf same-length returns returns-2)
+put-u8-spec = tie.close (tie.spec (λ c. search needs) (λ c. search needs) returns returns-2)

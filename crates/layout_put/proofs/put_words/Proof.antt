@@ -14,26 +14,11 @@ use Rattle.layout_put.proofs.put_words.Tie as tie
 room : (c : tie.Then1) → c .before .before .before .args .at + 12 ≤ length (now (c .before .before .before .args .buf))
 room c = passed (c .before .inside .ensures) (c .if1 .taken)
 
-inside-requires : tie.Need-inside-requires
-inside-requires c κs = search needs
-
-put-u32-requires : tie.Need-put-u32-requires
-put-u32-requires c κs = search needs
-
 add-put-u32 : tie.Need-add-put-u32
 add-put-u32 c = let h = room (c .before .before .before .before .before) in omega arith
 
-put-u32-requires-2 : tie.Need-put-u32-requires-2
-put-u32-requires-2 c κs = search needs
-
 add-put-u32-2 : tie.Need-add-put-u32-2
 add-put-u32-2 c = let h = room (c .before .before .before .before .before .before .before .before .before) in omega arith
-
-put-u32-requires-3 : tie.Need-put-u32-requires-3
-put-u32-requires-3 c κs = search needs
-
-same-length : tie.Need-same-length
-same-length c = search needs
 
 returns : tie.Need-returns
 returns c =
@@ -52,12 +37,12 @@ pub put-words-spec : {M : Type 1} → statement M
 put-words-spec =
     tie.close
     (tie.spec
-    inside-requires
-    put-u32-requires
+    (λ c κs. search needs)
+    (λ c κs. search needs)
     add-put-u32
-    put-u32-requires-2
+    (λ c κs. search needs)
     add-put-u32-2
-    put-u32-requires-3
-    same-length
+    (λ c κs. search needs)
+    (λ c. search needs)
     returns
     returns-2)

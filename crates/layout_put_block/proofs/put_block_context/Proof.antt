@@ -16,20 +16,8 @@ use Rattle.layout_put_block.proofs.put_block_context.Tie as tie
 room : (c : tie.Then1) → c .before .before .before .args .at + 8 ≤ length (now (c .before .before .before .args .buf))
 room c = passed (c .before .inside .ensures) (c .if1 .taken)
 
-inside-requires : tie.Need-inside-requires
-inside-requires c κs = search needs
-
-put-context-requires : tie.Need-put-context-requires
-put-context-requires c κs = search needs
-
 add-put-u16 : tie.Need-add-put-u16
 add-put-u16 c = let h = room (c .before .before .before .before .before) in omega arith
-
-put-u16-requires : tie.Need-put-u16-requires
-put-u16-requires c κs = search needs
-
-same-length : tie.Need-same-length
-same-length c = search needs
 
 returns : tie.Need-returns
 unfolding be16
@@ -47,10 +35,10 @@ pub put-block-context-spec : {M : Type 1} → statement M
 put-block-context-spec =
     tie.close
     (tie.spec
-    inside-requires
-    put-context-requires
+    (λ c κs. search needs)
+    (λ c κs. search needs)
     add-put-u16
-    put-u16-requires
-    same-length
+    (λ c κs. search needs)
+    (λ c. search needs)
     returns
     returns-2)

@@ -18,40 +18,16 @@ use Rattle.layout_put_block.proofs.put_header.Tie as tie
 room : (c : tie.Then1) → c .before .before .before .args .at + 32 ≤ length (now (c .before .before .before .args .buf))
 room c = passed (c .before .inside .ensures) (c .if1 .taken)
 
-inside-requires : tie.Need-inside-requires
-inside-requires c κs = search needs
-
-put-words-requires : tie.Need-put-words-requires
-put-words-requires c κs = search needs
-
 add-put-block-context : tie.Need-add-put-block-context
 add-put-block-context c = let h = room (c .before .before .before .before .before .before) in omega arith
 
-put-block-context-requires : tie.Need-put-block-context-requires
-put-block-context-requires c κs = search needs
-
 add-put-block-context-2 : tie.Need-add-put-block-context-2
 add-put-block-context-2 c = let h = room (c .before .before .before .before .before .before .before .before .before .before .before) in omega arith
-
-put-block-context-requires-2 : tie.Need-put-block-context-requires-2
-put-block-context-requires-2 c κs = search needs
-
-cast-t17 : tie.Need-cast-t17
-cast-t17 c = search needs
 
 add-put-bytes : tie.Need-add-put-bytes
 add-put-bytes c =
     let far = c .before .before .before .before .before .before .before .before .before .before .before .before .before .before in
     let h = room (far .before .before) in omega arith
-
-slice-aggregate-put-bytes : tie.Need-slice-aggregate-put-bytes
-slice-aggregate-put-bytes c = search needs
-
-put-bytes-requires : tie.Need-put-bytes-requires
-put-bytes-requires c κs = search needs
-
-same-length : tie.Need-same-length
-same-length c = search needs
 
 returns : tie.Need-returns
 unfolding headerPut headerBytes
@@ -73,16 +49,16 @@ pub put-header-spec : {M : Type 1} → statement M
 put-header-spec =
     tie.close
     (tie.spec
-    inside-requires
-    put-words-requires
+    (λ c κs. search needs)
+    (λ c κs. search needs)
     add-put-block-context
-    put-block-context-requires
+    (λ c κs. search needs)
     add-put-block-context-2
-    put-block-context-requires-2
-    cast-t17
+    (λ c κs. search needs)
+    (λ c. search needs)
     add-put-bytes
-    slice-aggregate-put-bytes
-    put-bytes-requires
-    same-length
+    (λ c. search needs)
+    (λ c κs. search needs)
+    (λ c. search needs)
     returns
     returns-2)

@@ -19,26 +19,8 @@ room : (c : tie.Then1) → c .before .before .before .before .args .at +
     (now (c .before .before .before .before .args .buf))
 room c = passed (c .before .inside .ensures) (c .if1 .taken)
 
-sub-pad : tie.Need-sub-pad
-sub-pad c = search needs
-
-add-inside : tie.Need-add-inside
-add-inside c = search needs
-
-inside-requires : tie.Need-inside-requires
-inside-requires c κs = search needs
-
-put-bytes-requires : tie.Need-put-bytes-requires
-put-bytes-requires c κs = search needs
-
 add-put-fill : tie.Need-add-put-fill
 add-put-fill c = let h = room (c .before .before .before .before .before) in omega arith
-
-put-fill-requires : tie.Need-put-fill-requires
-put-fill-requires c κs = search needs
-
-same-length : tie.Need-same-length
-same-length c = search needs
 
 returns : tie.Need-returns
 unfolding padded
@@ -61,12 +43,12 @@ pub put-padded-spec : {M : Type 1} → statement M
 put-padded-spec =
     tie.close
     (tie.spec
-    sub-pad
-    add-inside
-    inside-requires
-    put-bytes-requires
+    (λ c. search needs)
+    (λ c. search needs)
+    (λ c κs. search needs)
+    (λ c κs. search needs)
     add-put-fill
-    put-fill-requires
-    same-length
+    (λ c κs. search needs)
+    (λ c. search needs)
     returns
     returns-2)

@@ -19,56 +19,26 @@ room c = passed (c .before .inside .ensures) (c .if1 .taken)
 sixteen : (c : tie.Then1) → length (c .before .before .before .args .c .coefficients) ≡ 16
 sixteen c = search needs
 
-inside-requires : tie.Need-inside-requires
-inside-requires c κs = search needs
-
-looping-number-requires : tie.Need-looping-number-requires
-looping-number-requires c κs = search needs
-
-put-u16-requires : tie.Need-put-u16-requires
-put-u16-requires c κs = search needs
-
 add-put-u16 : tie.Need-add-put-u16
 add-put-u16 c = let h = room (c .before .before .before .before .before .before) in omega arith
 
-format-number-requires : tie.Need-format-number-requires
-format-number-requires c κs = search needs
-
-put-u16-requires-2 : tie.Need-put-u16-requires-2
-put-u16-requires-2 c κs = search needs
-
 add-put-words : tie.Need-add-put-words
 add-put-words c = let h = room (c .before .before .before .before .before .before .before .before .before .before .before) in omega arith
-
-put-words-requires : tie.Need-put-words-requires
-put-words-requires c κs = search needs
 
 add-put-coefficients : tie.Need-add-put-coefficients
 add-put-coefficients c =
     let far = c .before .before .before .before .before .before .before .before .before .before .before .before .before .before in
     let h = room (far .before .before) in omega arith
 
-put-coefficients-requires : tie.Need-put-coefficients-requires
-put-coefficients-requires c κs = search needs
-
 add-put-u16-2 : tie.Need-add-put-u16-2
 add-put-u16-2 c =
     let far = c .before .before .before .before .before .before .before .before .before .before .before .before .before .before in
     let h = room (far .before .before .before .before .before .before) in omega arith
 
-put-u16-requires-3 : tie.Need-put-u16-requires-3
-put-u16-requires-3 c κs = search needs
-
 add-put-context : tie.Need-add-put-context
 add-put-context c =
     let far = c .before .before .before .before .before .before .before .before .before .before .before .before .before .before in
     let h = room (far .before .before .before .before .before .before .before .before .before .before .before) in omega arith
-
-put-context-requires : tie.Need-put-context-requires
-put-context-requires c κs = search needs
-
-same-length : tie.Need-same-length
-same-length c = search needs
 
 returns : tie.Need-returns
 unfolding channelBytes
@@ -93,20 +63,20 @@ pub put-channel-spec : {M : Type 1} → statement M
 put-channel-spec =
     tie.close
     (tie.spec
-    inside-requires
-    looping-number-requires
-    put-u16-requires
+    (λ c κs. search needs)
+    (λ c κs. search needs)
+    (λ c κs. search needs)
     add-put-u16
-    format-number-requires
-    put-u16-requires-2
+    (λ c κs. search needs)
+    (λ c κs. search needs)
     add-put-words
-    put-words-requires
+    (λ c κs. search needs)
     add-put-coefficients
-    put-coefficients-requires
+    (λ c κs. search needs)
     add-put-u16-2
-    put-u16-requires-3
+    (λ c κs. search needs)
     add-put-context
-    put-context-requires
-    same-length
+    (λ c κs. search needs)
+    (λ c. search needs)
     returns
     returns-2)

@@ -20,34 +20,10 @@ Inv-loop buf₀ at coefficients i₀ buf i = PuttingEach beZ16 2 buf₀ at coeff
 abbrev μ-loop : tie.MeasureT-loop
 μ-loop buf₀ at coefficients i₀ buf i = 16 - i
 
-inside-requires : tie.Need-inside-requires Inv-loop μ-loop
-inside-requires c κs = search needs
-
 loop-holds : tie.Need-loop-holds Inv-loop μ-loop
 loop-holds c =
     let n : length (c .before .before .before .args .t3) ≡ 16 = search needs in
     (each-none (omega arith) (passed (c .before .inside .ensures) (c .if1 .taken)), n)
-
-mul-put-i16 : tie.Need-mul-put-i16 Inv-loop μ-loop
-mul-put-i16 c = omega arith
-
-add-put-i16 : tie.Need-add-put-i16 Inv-loop μ-loop
-add-put-i16 c = omega arith
-
-mul-put-i16-2 : tie.Need-mul-put-i16-2 Inv-loop μ-loop
-mul-put-i16-2 c = omega arith
-
-array-copy-out-put-i16 : tie.Need-array-copy-out-put-i16 Inv-loop μ-loop
-array-copy-out-put-i16 c = omega arith
-
-put-i16-requires : tie.Need-put-i16-requires Inv-loop μ-loop
-put-i16-requires c κs = search needs
-
-add-i : tie.Need-add-i Inv-loop μ-loop
-add-i c = omega arith
-
-loop-less : tie.Need-loop-less Inv-loop μ-loop
-loop-less c = omega arith
 
 loop-again : tie.Need-loop-again Inv-loop μ-loop
 loop-again c =
@@ -71,15 +47,15 @@ put-coefficients-spec =
     (tie.spec
     Inv-loop
     μ-loop
-    inside-requires
+    (λ c κs. search needs)
     loop-holds
-    mul-put-i16
-    add-put-i16
-    mul-put-i16-2
-    array-copy-out-put-i16
-    put-i16-requires
-    add-i
-    loop-less
+    (λ c. omega arith)
+    (λ c. omega arith)
+    (λ c. omega arith)
+    (λ c. omega arith)
+    (λ c κs. search needs)
+    (λ c. omega arith)
+    (λ c. omega arith)
     loop-again
     same-length
     returns

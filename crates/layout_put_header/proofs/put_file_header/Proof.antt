@@ -23,21 +23,6 @@ left-sixteen c = search needs
 right-sixteen : (c : tie.Then1) → length (c .before .before .before .args .right .coefficients) ≡ 16
 right-sixteen c = search needs
 
-inside-requires : tie.Need-inside-requires
-inside-requires c κs = search needs
-
-put-magic-requires : tie.Need-put-magic-requires
-put-magic-requires c κs = search needs
-
-put-channel-requires : tie.Need-put-channel-requires
-put-channel-requires c κs = search needs
-
-put-channel-requires-2 : tie.Need-put-channel-requires-2
-put-channel-requires-2 c κs = search needs
-
-same-length : tie.Need-same-length
-same-length c = search needs
-
 returns : tie.Need-returns
 unfolding fileHeaderBytes
 returns c =
@@ -57,10 +42,10 @@ pub put-file-header-spec : {M : Type 1} → statement M
 put-file-header-spec =
     tie.close
     (tie.spec
-    inside-requires
-    put-magic-requires
-    put-channel-requires
-    put-channel-requires-2
-    same-length
+    (λ c κs. search needs)
+    (λ c κs. search needs)
+    (λ c κs. search needs)
+    (λ c κs. search needs)
+    (λ c. search needs)
     returns
     returns-2)

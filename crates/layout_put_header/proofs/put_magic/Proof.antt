@@ -15,24 +15,6 @@ use Rattle.layout_put_header.proofs.put_magic.Tie as tie
 room : (c : tie.Then1) → 0 + 16 ≤ length (now (c .before .before .before .args .buf))
 room c = passed (c .before .inside .ensures) (c .if1 .taken)
 
-inside-requires : tie.Need-inside-requires
-inside-requires c κs = search needs
-
-slice-aggregate-put-bytes : tie.Need-slice-aggregate-put-bytes
-slice-aggregate-put-bytes c = search needs
-
-put-bytes-requires : tie.Need-put-bytes-requires
-put-bytes-requires c κs = search needs
-
-put-u32-requires : tie.Need-put-u32-requires
-put-u32-requires c κs = search needs
-
-put-u32-requires-2 : tie.Need-put-u32-requires-2
-put-u32-requires-2 c κs = search needs
-
-same-length : tie.Need-same-length
-same-length c = search needs
-
 returns : tie.Need-returns
 returns c =
     let far = c .before .before .before .before .before .before .before .before .before .before in
@@ -50,11 +32,11 @@ pub put-magic-spec : {M : Type 1} → statement M
 put-magic-spec =
     tie.close
     (tie.spec
-    inside-requires
-    slice-aggregate-put-bytes
-    put-bytes-requires
-    put-u32-requires
-    put-u32-requires-2
-    same-length
+    (λ c κs. search needs)
+    (λ c. search needs)
+    (λ c κs. search needs)
+    (λ c κs. search needs)
+    (λ c κs. search needs)
+    (λ c. search needs)
     returns
     returns-2)

@@ -3,24 +3,6 @@ use borrow.Author.Needs.{needs}
 use Rattle.layout_sizes.proofs.address_to_byte_up.Statement.{statement}
 use Rattle.layout_sizes.proofs.address_to_byte_up.Tie as tie
 
-add-len : tie.Need-add-len
-add-len c = search needs
-
-enum-told : tie.Need-enum-told
-enum-told c = search needs
-
-adpcm-bytes-requires : tie.Need-adpcm-bytes-requires
-adpcm-bytes-requires c κs = search needs
-
-enum-told-2 : tie.Need-enum-told-2
-enum-told-2 c = search needs
-
-mul-result : tie.Need-mul-result
-mul-result c = search needs
-
-enum-told-3 : tie.Need-enum-told-3
-enum-told-3 c = search needs
-
 returns : tie.Need-returns
 returns c = rw (c .before .enum-told .given .1) (c .adpcm-bytes .ensures)
 
@@ -34,12 +16,12 @@ pub address-to-byte-up-spec : {M : Type 1} → statement M
 address-to-byte-up-spec =
     tie.close
     (tie.spec
-    add-len
-    enum-told
-    adpcm-bytes-requires
-    enum-told-2
-    mul-result
-    enum-told-3
+    (λ c. search needs)
+    (λ c. search needs)
+    (λ c κs. search needs)
+    (λ c. search needs)
+    (λ c. search needs)
+    (λ c. search needs)
     returns
     returns-2
     returns-3)

@@ -4,12 +4,9 @@ use borrow.Author.Needs.{needs}
 use Rattle.layout_sizes.proofs.adpcm_bytes.Statement.{statement}
 use Rattle.layout_sizes.proofs.adpcm_bytes.Tie as tie
 
-add-result : tie.Need-add-result
-add-result c = search needs
-
 returns : tie.Need-returns
 unfolding adpcmBytes
 returns c = omega arith
 
 pub adpcm-bytes-spec : {M : Type 1} → statement M
-adpcm-bytes-spec = tie.close (tie.spec add-result returns)
+adpcm-bytes-spec = tie.close (tie.spec (λ c. search needs) returns)

@@ -5,18 +5,6 @@ use borrow.Author.Needs.{needs}
 use Rattle.layout_sizes.proofs.adpcm_samples.Statement.{statement}
 use Rattle.layout_sizes.proofs.adpcm_samples.Tie as tie
 
-sub-address : tie.Need-sub-address
-sub-address c = search needs
-
-add-address : tie.Need-add-address
-add-address c = search needs
-
-add-num-frames : tie.Need-add-num-frames
-add-num-frames c = search needs
-
-mul-result : tie.Need-mul-result
-mul-result c = search needs
-
 past : (c : tie.After-row-known) → PastHead (c .before .before .args .n) (c .before .if1 .address)
 past c = ⊎-elim (λ w. moved-past (w .0 .taken) (w .1)) (λ w. stands-past (w .0 .left) (w .1)) (c .before .if1 .came)
 
@@ -28,4 +16,4 @@ returns c = past c .samples
 
 pub adpcm-samples-spec : {M : Type 1} → statement M
 adpcm-samples-spec =
-    tie.close (tie.spec sub-address add-address add-num-frames mul-result sub-result returns)
+    tie.close (tie.spec (λ c. search needs) (λ c. search needs) (λ c. search needs) (λ c. search needs) sub-result returns)

@@ -6,15 +6,6 @@ use borrow.Author.Needs.{needs}
 use Rattle.layout_sizes.proofs.align.Statement.{statement}
 use Rattle.layout_sizes.proofs.align.Tie as tie
 
-sub-if1 : tie.Need-sub-if1
-sub-if1 c = search needs
-
-add-result : tie.Need-add-result
-add-result c = search needs
-
-mul-result : tie.Need-mul-result
-mul-result c = search needs
-
 returns : tie.Need-returns
 unfolding P
 returns c = sym (saturated-fits _ (omega arith))
@@ -24,4 +15,4 @@ unfolding P
 returns-2 c = sym (saturated-over _ (omega arith))
 
 pub align-spec : {M : Type 1} → statement M
-align-spec = tie.close (tie.spec sub-if1 add-result mul-result returns returns-2)
+align-spec = tie.close (tie.spec (λ c. search needs) (λ c. search needs) (λ c. search needs) returns returns-2)

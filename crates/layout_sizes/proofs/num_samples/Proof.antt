@@ -2,21 +2,6 @@ use borrow.Author.Needs.{needs}
 use Rattle.layout_sizes.proofs.num_samples.Statement.{statement}
 use Rattle.layout_sizes.proofs.num_samples.Tie as tie
 
-add-len : tie.Need-add-len
-add-len c = search needs
-
-enum-told : tie.Need-enum-told
-enum-told c = search needs
-
-adpcm-samples-requires : tie.Need-adpcm-samples-requires
-adpcm-samples-requires c κs = search needs
-
-enum-told-2 : tie.Need-enum-told-2
-enum-told-2 c = search needs
-
-enum-told-3 : tie.Need-enum-told-3
-enum-told-3 c = search needs
-
 returns : tie.Need-returns
 returns c = rw (c .before .enum-told .given .1) (c .adpcm-samples .ensures)
 
@@ -30,11 +15,11 @@ pub num-samples-spec : {M : Type 1} → statement M
 num-samples-spec =
     tie.close
     (tie.spec
-    add-len
-    enum-told
-    adpcm-samples-requires
-    enum-told-2
-    enum-told-3
+    (λ c. search needs)
+    (λ c. search needs)
+    (λ c κs. search needs)
+    (λ c. search needs)
+    (λ c. search needs)
     returns
     returns-2
     returns-3)

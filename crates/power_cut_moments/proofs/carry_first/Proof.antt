@@ -14,62 +14,17 @@ abbrev μ-loop : tie.MeasureT-loop
 loop-holds : tie.Need-loop-holds Inv-loop μ-loop
 loop-holds c = carried-none (search needs)
 
-mul-place : tie.Need-mul-place Inv-loop μ-loop
-mul-place c = search needs
-
-array-copy-out-place : tie.Need-array-copy-out-place Inv-loop μ-loop
-array-copy-out-place c = search needs
-
-sub-least : tie.Need-sub-least Inv-loop μ-loop
-sub-least c = search needs
-
-least-requires : tie.Need-least-requires Inv-loop μ-loop
-least-requires c κs = search needs
-
-add-end : tie.Need-add-end Inv-loop μ-loop
-add-end c = search needs
-
-sub-reach : tie.Need-sub-reach Inv-loop μ-loop
-sub-reach c = search needs
-
-part-reach-start : tie.Need-part-reach-start Inv-loop μ-loop
-part-reach-start c = search needs
-
-part-reach-end : tie.Need-part-reach-end Inv-loop μ-loop
-part-reach-end c = search needs
-
-reach-requires : tie.Need-reach-requires Inv-loop μ-loop
-reach-requires c κs = search needs
-
-same-length : tie.Need-same-length Inv-loop μ-loop
-same-length c = search needs
-
 returns : tie.Need-returns Inv-loop μ-loop
-returns c = carried-part (c .before .before .before .before .before .before .before .before .before .loop .inv) _ (search needs) (c .before .before .before .before .before .before .least .ensures) (c .before .before .before .before .before .before .before .before .before .loop .at + c .before .before .before .before .before .before .least .result - c .before .before .before .before .before .before .before .before .before .loop .at) (omega arith) (search needs) (c .before .before .reach .ensures)
-
-sub-reach-2 : tie.Need-sub-reach-2 Inv-loop μ-loop
-sub-reach-2 c = search needs
-
-part-reach-start-2 : tie.Need-part-reach-start-2 Inv-loop μ-loop
-part-reach-start-2 c = search needs
-
-part-reach-end-2 : tie.Need-part-reach-end-2 Inv-loop μ-loop
-part-reach-end-2 c = search needs
-
-reach-requires-2 : tie.Need-reach-requires-2 Inv-loop μ-loop
-reach-requires-2 c κs = search needs
-
-add-i : tie.Need-add-i Inv-loop μ-loop
-add-i c = search needs
-
-loop-less : tie.Need-loop-less Inv-loop μ-loop
-loop-less c = search needs
+returns c = carried-part (c .before .before .before .before .before .before .before .before .before .loop .inv) _ (search needs)
+    (c .before .before .before .before .before .before .least .ensures)
+    (c .before .before .before .before .before .before .before .before .before .loop .at + c .before .before .before .before .before .before .least .result
+    - c .before .before .before .before .before .before .before .before .before .loop .at) (omega arith) (search needs) (c .before .before .reach .ensures)
 
 loop-again : tie.Need-loop-again Inv-loop μ-loop
-loop-again c = carried-more (c .before .before .before .before .before .before .before .before .before .loop .inv) _ (search needs) (c .before .before .before .before .before .before .least .ensures) (c .before .before .before .before .before .before .before .before .before .loop .at + c .before .before .before .before .before .before .least .result - c .before .before .before .before .before .before .before .before .before .loop .at) (omega arith) (search needs) (c .before .before .reach2 .ensures)
-
-same-length-2 : tie.Need-same-length-2 Inv-loop μ-loop
-same-length-2 c = search needs
+loop-again c = carried-more (c .before .before .before .before .before .before .before .before .before .loop .inv) _ (search needs)
+    (c .before .before .before .before .before .before .least .ensures)
+    (c .before .before .before .before .before .before .before .before .before .loop .at + c .before .before .before .before .before .before .least .result
+    - c .before .before .before .before .before .before .before .before .before .loop .at) (omega arith) (search needs) (c .before .before .reach2 .ensures)
 
 returns-2 : tie.Need-returns-2 Inv-loop μ-loop
 returns-2 c = carried-all (c .before .loop .inv) (search needs)
@@ -81,23 +36,23 @@ carry-first-spec =
     Inv-loop
     μ-loop
     loop-holds
-    mul-place
-    array-copy-out-place
-    sub-least
-    least-requires
-    add-end
-    sub-reach
-    part-reach-start
-    part-reach-end
-    reach-requires
-    same-length
+    (λ c. search needs)
+    (λ c. search needs)
+    (λ c. search needs)
+    (λ c κs. search needs)
+    (λ c. search needs)
+    (λ c. search needs)
+    (λ c. search needs)
+    (λ c. search needs)
+    (λ c κs. search needs)
+    (λ c. search needs)
     returns
-    sub-reach-2
-    part-reach-start-2
-    part-reach-end-2
-    reach-requires-2
-    add-i
-    loop-less
+    (λ c. search needs)
+    (λ c. search needs)
+    (λ c. search needs)
+    (λ c κs. search needs)
+    (λ c. search needs)
+    (λ c. search needs)
     loop-again
-    same-length-2
+    (λ c. search needs)
     returns-2)

@@ -16,44 +16,14 @@ abbrev μ-loop : tie.MeasureT-loop
 loop-holds : tie.Need-loop-holds Inv-loop μ-loop
 loop-holds c = (refl, passing-none (search needs))
 
-mul-place : tie.Need-mul-place Inv-loop μ-loop
-mul-place c = search needs
-
-array-copy-out-place : tie.Need-array-copy-out-place Inv-loop μ-loop
-array-copy-out-place c = search needs
-
-sub-least : tie.Need-sub-least Inv-loop μ-loop
-sub-least c = search needs
-
-least-requires : tie.Need-least-requires Inv-loop μ-loop
-least-requires c κs = search needs
-
-add-end : tie.Need-add-end Inv-loop μ-loop
-add-end c = search needs
-
-sub-reach-next : tie.Need-sub-reach-next Inv-loop μ-loop
-sub-reach-next c = search needs
-
-part-reach-next-start : tie.Need-part-reach-next-start Inv-loop μ-loop
-part-reach-next-start c = search needs
-
-part-reach-next-end : tie.Need-part-reach-next-end Inv-loop μ-loop
-part-reach-next-end c = search needs
-
-reach-next-requires : tie.Need-reach-next-requires Inv-loop μ-loop
-reach-next-requires c κs = search needs
-
 same-length : tie.Need-same-length Inv-loop μ-loop
 same-length c = let h = ap length (c .before .before .before .before .before .before .before .before .before .loop .inv .0) in omega arith
 
 returns : tie.Need-returns Inv-loop μ-loop
-returns c = passing-here (c .before .before .before .before .before .before .before .before .before .loop .inv .1) (c .before .before .before .before .before .before .before .before .before .loop .inv .0) _ (search needs) (c .before .before .before .before .before .before .least .ensures) (c .before .before .before .before .before .before .before .before .before .loop .at + c .before .before .before .before .before .before .least .result - c .before .before .before .before .before .before .before .before .before .loop .at) (omega arith) (search needs) (c .before .before .reach-next .ensures)
-
-add-i : tie.Need-add-i Inv-loop μ-loop
-add-i c = search needs
-
-loop-less : tie.Need-loop-less Inv-loop μ-loop
-loop-less c = search needs
+returns c = passing-here (c .before .before .before .before .before .before .before .before .before .loop .inv .1)
+    (c .before .before .before .before .before .before .before .before .before .loop .inv .0) _ (search needs) (c .before .before .before .before .before .before .least .ensures)
+    (c .before .before .before .before .before .before .before .before .before .loop .at + c .before .before .before .before .before .before .least .result
+    - c .before .before .before .before .before .before .before .before .before .loop .at) (omega arith) (search needs) (c .before .before .reach-next .ensures)
 
 loop-again : tie.Need-loop-again Inv-loop μ-loop
 loop-again c = passing-more (c .before .before .before .before .loop .inv .1) (c .before .before .before .before .loop .inv .0) _ (search needs) (c .before .least .ensures) (search needs)
@@ -71,19 +41,19 @@ next-first-spec =
     Inv-loop
     μ-loop
     loop-holds
-    mul-place
-    array-copy-out-place
-    sub-least
-    least-requires
-    add-end
-    sub-reach-next
-    part-reach-next-start
-    part-reach-next-end
-    reach-next-requires
+    (λ c. search needs)
+    (λ c. search needs)
+    (λ c. search needs)
+    (λ c κs. search needs)
+    (λ c. search needs)
+    (λ c. search needs)
+    (λ c. search needs)
+    (λ c. search needs)
+    (λ c κs. search needs)
     same-length
     returns
-    add-i
-    loop-less
+    (λ c. search needs)
+    (λ c. search needs)
     loop-again
     same-length-2
     returns-2)

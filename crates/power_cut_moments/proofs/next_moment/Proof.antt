@@ -11,22 +11,14 @@ use Rattle.power_cut_moments.proofs.ByteLaws.{same-take}
 use Rattle.power_cut_moments.proofs.next_moment.Statement.{statement}
 use Rattle.power_cut_moments.proofs.next_moment.Tie as tie
 
-least-requires : tie.Need-least-requires
-least-requires c κs = search needs
-
-next-first-requires : tie.Need-next-first-requires
-next-first-requires c κs = search needs
-
-same-length : tie.Need-same-length
-same-length c = search needs
-
 returns : tie.Need-returns
 returns c =
     let b = c .before .before in
     let a = b .before .before .before .before .before .args in
     let long : length (a .places) ≡ mostWrites = search needs in
     b .next-first .ensures
-    ∙ ap (λ (ps : List Place). nextByte (now (a .slot)) (writesIn ps (now (a .bytes))) (a .moment)) (same-take (a .count) (a .places) (b .before .before .least .ensures ∙ ap (min (a .count)) (sym long)))
+    ∙ ap (λ (ps : List Place). nextByte (now (a .slot)) (writesIn ps (now (a .bytes))) (a .moment))
+    (same-take (a .count) (a .places) (b .before .before .least .ensures ∙ ap (min (a .count)) (sym long)))
 
 pub next-moment-spec : {M : Type 1} → statement M
-next-moment-spec = tie.close (tie.spec least-requires next-first-requires same-length returns)
+next-moment-spec = tie.close (tie.spec (λ c κs. search needs) (λ c κs. search needs) (λ c. search needs) returns)

@@ -12,23 +12,12 @@ use Rattle.layout.proofs.fields.inside.Reads as inside-reads
 use Rattle.layout_put.proofs.put_bytes.Reads as put-bytes-reads
 use Rattle.layout.proofs.least.Reads as least-reads
 
-inside-requires : tie.Need-inside-requires
-inside-requires c κs = search needs
-
-least-requires : tie.Need-least-requires
-least-requires c κs = search needs
-
 slice-aggregate-put-bytes : tie.Need-slice-aggregate-put-bytes
 slice-aggregate-put-bytes c = sym (length-take-le _ _ (omega (arith, c .before .before .least .ensures)))
 
-put-bytes-requires : tie.Need-put-bytes-requires
-put-bytes-requires c κs = search needs
-
-same-length : tie.Need-same-length
-same-length c = search needs
-
 returns : tie.Need-returns
-returns c = reached-by _ _ _ _ (c .before .before .before .before .before .least .ensures) (passed (c .before .before .before .before .before .before .before .inside .ensures) (c .before .before .before .before .before .before .if1 .taken)) (c .before .before .put-bytes .ensures)
+returns c = reached-by _ _ _ _ (c .before .before .before .before .before .least .ensures)
+    (passed (c .before .before .before .before .before .before .before .inside .ensures) (c .before .before .before .before .before .before .if1 .taken)) (c .before .before .put-bytes .ensures)
 
 returns-2 : tie.Need-returns-2
 returns-2 c = sym (reached-out _ _ _ _ (failed (c .before .inside .ensures) (c .if1 .left)))
@@ -37,10 +26,10 @@ pub reach-spec : {M : Type 1} → statement M
 reach-spec =
     tie.close
     (tie.spec
-    inside-requires
-    least-requires
+    (λ c κs. search needs)
+    (λ c κs. search needs)
     slice-aggregate-put-bytes
-    put-bytes-requires
-    same-length
+    (λ c κs. search needs)
+    (λ c. search needs)
     returns
     returns-2)

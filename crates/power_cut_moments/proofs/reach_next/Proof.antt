@@ -7,20 +7,13 @@ use borrow.Author.Needs.{needs}
 use Rattle.power_cut_moments.proofs.reach_next.Statement.{statement}
 use Rattle.power_cut_moments.proofs.reach_next.Tie as tie
 
-inside-requires : tie.Need-inside-requires
-inside-requires c κs = search needs
-
-shared-slice-read-slot : tie.Need-shared-slice-read-slot
-shared-slice-read-slot c = search needs
-
 add-slot : tie.Need-add-slot
-add-slot c = let s = c .before .before .before .before .before .before .args in let h : s .at + length (s .bytes .now) ≤ length (s .slot .now) = passed (c .before .before .before .inside .ensures) (c .before .before .if1 .taken) in omega arith
+add-slot c = let s = c .before .before .before .before .before .before .args in let h : s .at + length (s .bytes .now) ≤ length (s .slot .now) =
+    passed (c .before .before .before .inside .ensures) (c .before .before .if1 .taken) in omega arith
 
 slice-write-slot : tie.Need-slice-write-slot
-slice-write-slot c = let s = c .before .before .before .before .before .before .args in let h : s .at + length (s .bytes .now) ≤ length (s .slot .now) = passed (c .before .before .before .inside .ensures) (c .before .before .if1 .taken) in omega arith
-
-same-length : tie.Need-same-length
-same-length c = search needs
+slice-write-slot c = let s = c .before .before .before .before .before .before .args in let h : s .at + length (s .bytes .now) ≤ length (s .slot .now) =
+    passed (c .before .before .before .inside .ensures) (c .before .before .if1 .taken) in omega arith
 
 returns : tie.Need-returns
 returns c = next-in _ _ _ _ (passed (c .before .before .before .inside .ensures) (c .before .before .if1 .taken)) (search needs)
@@ -35,11 +28,11 @@ pub reach-next-spec : {M : Type 1} → statement M
 reach-next-spec =
     tie.close
     (tie.spec
-    inside-requires
-    shared-slice-read-slot
+    (λ c κs. search needs)
+    (λ c. search needs)
     add-slot
     slice-write-slot
-    same-length
+    (λ c. search needs)
     returns
     returns-2
     returns-3)

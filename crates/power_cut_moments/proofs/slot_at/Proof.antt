@@ -11,22 +11,14 @@ use Rattle.power_cut_moments.proofs.ByteLaws.{same-take}
 use Rattle.power_cut_moments.proofs.slot_at.Statement.{statement}
 use Rattle.power_cut_moments.proofs.slot_at.Tie as tie
 
-least-requires : tie.Need-least-requires
-least-requires c κs = search needs
-
-carry-first-requires : tie.Need-carry-first-requires
-carry-first-requires c κs = search needs
-
-same-length : tie.Need-same-length
-same-length c = search needs
-
 returns : tie.Need-returns
 returns c =
     let b = c .before .before in
     let a = b .before .before .before .before .before .args in
     let long : length (a .places) ≡ mostWrites = search needs in
     b .carry-first .ensures
-    ∙ ap (λ (ps : List Place). slotAt (now (a .slot)) (writesIn ps (now (a .bytes))) (a .moment)) (same-take (a .count) (a .places) (b .before .before .least .ensures ∙ ap (min (a .count)) (sym long)))
+    ∙ ap (λ (ps : List Place). slotAt (now (a .slot)) (writesIn ps (now (a .bytes))) (a .moment))
+    (same-take (a .count) (a .places) (b .before .before .least .ensures ∙ ap (min (a .count)) (sym long)))
 
 pub slot-at-spec : {M : Type 1} → statement M
-slot-at-spec = tie.close (tie.spec least-requires carry-first-requires same-length returns)
+slot-at-spec = tie.close (tie.spec (λ c κs. search needs) (λ c κs. search needs) (λ c. search needs) returns)

@@ -2,11 +2,8 @@ use borrow.Author.Needs.{needs}
 use Rattle.reader.proofs.no_reader.Statement.{statement}
 use Rattle.reader.proofs.no_reader.Tie as tie
 
-no-channel-requires : tie.Need-no-channel-requires
-no-channel-requires c κs = search needs
-
 returns : tie.Need-returns
 returns c = rw (c .no-channel .ensures)
 
 pub no-reader-spec : {M : Type 1} → statement M
-no-reader-spec = tie.close (tie.spec no-channel-requires returns)
+no-reader-spec = tie.close (tie.spec (λ c κs. search needs) returns)

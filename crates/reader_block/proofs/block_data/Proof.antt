@@ -10,42 +10,15 @@ use borrow.Author.Needs.{needs}
 use Rattle.reader_block.proofs.block_data.Statement.{statement}
 use Rattle.reader_block.proofs.block_data.Tie as tie
 
-slice-aggregate-result : tie.Need-slice-aggregate-result
-slice-aggregate-result c = search needs
-
 returns : tie.Need-returns
 returns c =
     let a = c .before .before .before .args in
     no-part (a .s .ptr) (no-channel (now (a .s)) (a .t2) (a .channel) (a .position) (c .before .if1 .taken)) refl refl
 
-slice-aggregate-result-2 : tie.Need-slice-aggregate-result-2
-slice-aggregate-result-2 c = search needs
-
 returns-2 : tie.Need-returns-2
 returns-2 c =
     let a = c .before .before .before .before .args in
     no-part (a .s .ptr) (past-last (now (a .s)) (a .t2) (a .channel) (a .position) (c .before .before .if1 .left) (c .before .if2 .taken)) refl refl
-
-mul-offset : tie.Need-mul-offset
-mul-offset c = search needs
-
-element-copy-out-offset : tie.Need-element-copy-out-offset
-element-copy-out-offset c = search needs
-
-channel-of-requires : tie.Need-channel-of-requires
-channel-of-requires c κs = search needs
-
-find-data-requires : tie.Need-find-data-requires
-find-data-requires c κs = search needs
-
-enum-known-found : tie.Need-enum-known-found
-enum-known-found c = search needs
-
-enum-told : tie.Need-enum-told
-enum-told c = search needs
-
-slice-aggregate-result-3 : tie.Need-slice-aggregate-result-3
-slice-aggregate-result-3 c = search needs
 
 returns-3 : tie.Need-returns-3
 returns-3 c =
@@ -84,17 +57,17 @@ pub block-data-spec : {M : Type 1} → statement M
 block-data-spec =
     tie.close
     (tie.spec
-    slice-aggregate-result
+    (λ c. search needs)
     returns
-    slice-aggregate-result-2
+    (λ c. search needs)
     returns-2
-    mul-offset
-    element-copy-out-offset
-    channel-of-requires
-    find-data-requires
-    enum-known-found
-    enum-told
-    slice-aggregate-result-3
+    (λ c. search needs)
+    (λ c. search needs)
+    (λ c κs. search needs)
+    (λ c κs. search needs)
+    (λ c. search needs)
+    (λ c. search needs)
+    (λ c. search needs)
     returns-3
     sub-result
     part-result-start

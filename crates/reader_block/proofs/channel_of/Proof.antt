@@ -7,15 +7,6 @@ use borrow.Author.Needs.{needs}
 use Rattle.reader_block.proofs.channel_of.Statement.{statement}
 use Rattle.reader_block.proofs.channel_of.Tie as tie
 
-mul-result : tie.Need-mul-result
-mul-result c = search needs
-
-array-copy-out-result : tie.Need-array-copy-out-result
-array-copy-out-result c = search needs
-
-no-channel-requires : tie.Need-no-channel-requires
-no-channel-requires c κs = search needs
-
 returns : tie.Need-returns
 returns c =
     let a = c .before .before .args in
@@ -28,4 +19,4 @@ returns-2 c =
 
 pub channel-of-spec : {M : Type 1} → statement M
 channel-of-spec =
-    tie.close (tie.spec mul-result array-copy-out-result no-channel-requires returns returns-2)
+    tie.close (tie.spec (λ c. search needs) (λ c. search needs) (λ c κs. search needs) returns returns-2)

@@ -16,41 +16,14 @@ Inv-loop s offsets blocks start format c count due block₀ place₀ base₀ blo
 abbrev μ-loop : tie.MeasureT-loop
 μ-loop s offsets blocks start format c count due block₀ place₀ base₀ block place base = count - block
 
-least-requires : tie.Need-least-requires Inv-loop μ-loop
-least-requires c κs = search needs
-
 loop-holds : tie.Need-loop-holds Inv-loop μ-loop
 loop-holds c = (stepping-none _ _ _, c .least .ensures)
-
-loop-here-requires : tie.Need-loop-here-requires Inv-loop μ-loop
-loop-here-requires c κs = search needs
-
-stepped-requires : tie.Need-stepped-requires Inv-loop μ-loop
-stepped-requires c κs = search needs
 
 returns : tie.Need-returns Inv-loop μ-loop
 returns c =
     let test = c .before .before .before in
     let w = test .before .loop .inv in
     step-loop (w .0) (w .1) (test .loop-test .taken) (sym (c .before .before .loop-here .ensures) ∙ c .before .if1 .taken) (c .stepped .ensures)
-
-mul-offset : tie.Need-mul-offset Inv-loop μ-loop
-mul-offset c = search needs
-
-shared-slice-read-offset : tie.Need-shared-slice-read-offset Inv-loop μ-loop
-shared-slice-read-offset c = search needs
-
-read-header-requires : tie.Need-read-header-requires Inv-loop μ-loop
-read-header-requires c κs = search needs
-
-enum-known-read : tie.Need-enum-known-read Inv-loop μ-loop
-enum-known-read c = search needs
-
-enum-told : tie.Need-enum-told Inv-loop μ-loop
-enum-told c = search needs
-
-number-requires : tie.Need-number-requires Inv-loop μ-loop
-number-requires c κs = search needs
 
 returns-2 : tie.Need-returns-2 Inv-loop μ-loop
 returns-2 c =
@@ -83,15 +56,6 @@ add-point-at-2 c =
     let header = header-got _ _ (e .read-header .ensures) (c .before .before .before .read .given .1) in
     omega (arith, cues-inside _ _ (e .before .before .before .before .before .loop .place) _ header (c .if2 .taken))
 
-point-at-requires : tie.Need-point-at-requires Inv-loop μ-loop
-point-at-requires c κs = search needs
-
-add-stepped : tie.Need-add-stepped Inv-loop μ-loop
-add-stepped c = search needs
-
-stepped-requires-2 : tie.Need-stepped-requires-2 Inv-loop μ-loop
-stepped-requires-2 c κs = search needs
-
 returns-3 : tie.Need-returns-3 Inv-loop μ-loop
 returns-3 c =
     let d = c .before .before .before in
@@ -101,18 +65,6 @@ returns-3 c =
     let header = header-got _ _ (e .read-header .ensures) (d .before .before .read .given .1) in
     let h = step-here (w .0) (w .1) (l .before .before .loop-test .taken) (sym (l .before .loop-here .ensures) ∙ l .if1 .left) (d .before .before .read .given .0 .0) header in
     step-point h (c .before .before .if2 .taken) (c .before .point-at .ensures) (c .stepped2 .ensures)
-
-add-block : tie.Need-add-block Inv-loop μ-loop
-add-block c = search needs
-
-num-samples-requires : tie.Need-num-samples-requires Inv-loop μ-loop
-num-samples-requires c κs = search needs
-
-wrapping-add-u64-requires : tie.Need-wrapping-add-u64-requires Inv-loop μ-loop
-wrapping-add-u64-requires c κs = search needs
-
-loop-less : tie.Need-loop-less Inv-loop μ-loop
-loop-less c = search needs
 
 loop-again : tie.Need-loop-again Inv-loop μ-loop
 loop-again c =
@@ -125,9 +77,6 @@ loop-again c =
     let b = c .wrapping-add-u64 .ensures ∙ ap (λ (m : ℕ). (l .before .before .before .loop .base + m) % 2 ^ 64) (c .before .num-samples .ensures) in
     (step-next h (c .before .before .if2 .left) b, w .1)
 
-stepped-requires-3 : tie.Need-stepped-requires-3 Inv-loop μ-loop
-stepped-requires-3 c κs = search needs
-
 returns-4 : tie.Need-returns-4 Inv-loop μ-loop
 returns-4 c =
     let w = c .before .before .loop .inv in
@@ -139,30 +88,30 @@ cue-from-spec =
     (tie.spec
     Inv-loop
     μ-loop
-    least-requires
+    (λ c κs. search needs)
     loop-holds
-    loop-here-requires
-    stepped-requires
+    (λ c κs. search needs)
+    (λ c κs. search needs)
     returns
-    mul-offset
-    shared-slice-read-offset
-    read-header-requires
-    enum-known-read
-    enum-told
-    number-requires
+    (λ c. search needs)
+    (λ c. search needs)
+    (λ c κs. search needs)
+    (λ c. search needs)
+    (λ c. search needs)
+    (λ c κs. search needs)
     returns-2
     cast-point-at
     add-point-at
     mul-point-at
     add-point-at-2
-    point-at-requires
-    add-stepped
-    stepped-requires-2
+    (λ c κs. search needs)
+    (λ c. search needs)
+    (λ c κs. search needs)
     returns-3
-    add-block
-    num-samples-requires
-    wrapping-add-u64-requires
-    loop-less
+    (λ c. search needs)
+    (λ c κs. search needs)
+    (λ c κs. search needs)
+    (λ c. search needs)
     loop-again
-    stepped-requires-3
+    (λ c κs. search needs)
     returns-4)

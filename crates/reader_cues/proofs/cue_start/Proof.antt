@@ -7,16 +7,10 @@ use borrow.Author.Needs.{needs}
 use Rattle.reader_cues.proofs.cue_start.Statement.{statement}
 use Rattle.reader_cues.proofs.cue_start.Tie as tie
 
-sign-extended-requires : tie.Need-sign-extended-requires
-sign-extended-requires c κs = search needs
-
-wrapping-add-u64-requires : tie.Need-wrapping-add-u64-requires
-wrapping-add-u64-requires c κs = search needs
-
 returns : tie.Need-returns
 returns c =
     let a = c .before .before .args in
     c .wrapping-add-u64 .ensures ∙ ap (λ (m : ℕ). (a .base + m) % 2 ^ 64) (c .before .sign-extended .ensures ∙ ap (ofZ w64) (toZ-ofZ w32 (a .index) (c .before .before .fits .index)))
 
 pub cue-start-spec : {M : Type 1} → statement M
-cue-start-spec = tie.close (tie.spec sign-extended-requires wrapping-add-u64-requires returns)
+cue-start-spec = tie.close (tie.spec (λ c κs. search needs) (λ c κs. search needs) returns)

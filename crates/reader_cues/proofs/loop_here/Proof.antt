@@ -2,12 +2,6 @@ use borrow.Author.Needs.{needs}
 use Rattle.reader_cues.proofs.loop_here.Statement.{statement}
 use Rattle.reader_cues.proofs.loop_here.Tie as tie
 
-enum-told : tie.Need-enum-told
-enum-told c = search needs
-
-enum-known-start : tie.Need-enum-known-start
-enum-known-start c = search needs
-
 returns : tie.Need-returns
 returns c = search needs
 
@@ -18,4 +12,4 @@ returns-3 : tie.Need-returns-3
 returns-3 c = search needs
 
 pub loop-here-spec : {M : Type 1} → statement M
-loop-here-spec = tie.close (tie.spec enum-told enum-known-start returns returns-2 returns-3)
+loop-here-spec = tie.close (tie.spec (λ c. search needs) (λ c. search needs) returns returns-2 returns-3)

@@ -9,15 +9,6 @@ use borrow.Author.Needs.{needs}
 use Rattle.reader_cues.proofs.next_cue.Statement.{statement}
 use Rattle.reader_cues.proofs.next_cue.Tie as tie
 
-element-copy-out-left : tie.Need-element-copy-out-left
-element-copy-out-left c = search needs
-
-slice-aggregate-cue-from : tie.Need-slice-aggregate-cue-from
-slice-aggregate-cue-from c = search needs
-
-cue-from-requires : tie.Need-cue-from-requires
-cue-from-requires c κs = search needs
-
 returns : tie.Need-returns
 returns c =
     let z = c .before .before .before .before .before in
@@ -27,4 +18,4 @@ returns c =
 
 pub next-cue-spec : {M : Type 1} → statement M
 next-cue-spec =
-    tie.close (tie.spec element-copy-out-left slice-aggregate-cue-from cue-from-requires returns)
+    tie.close (tie.spec (λ c. search needs) (λ c. search needs) (λ c κs. search needs) returns)

@@ -12,25 +12,10 @@ use borrow.Author.Needs.{needs}
 use Rattle.reader_cues.proofs.point_at.Statement.{statement}
 use Rattle.reader_cues.proofs.point_at.Tie as tie
 
-read-cue-requires : tie.Need-read-cue-requires
-read-cue-requires c κs = search needs
-
-enum-known-read : tie.Need-enum-known-read
-enum-known-read c = search needs
-
-enum-told : tie.Need-enum-told
-enum-told c = search needs
-
-number-requires : tie.Need-number-requires
-number-requires c κs = search needs
-
 returns : tie.Need-returns
 returns c =
     let a = c .before .before .before .before .before .args in
     sym (ap (pointRead (a .base)) (number-read cue (c .before .before .before .read-cue .ensures) (c .before .enum-told .given .1) (c .number .ensures)))
-
-cue-start-requires : tie.Need-cue-start-requires
-cue-start-requires c κs = search needs
 
 returns-2 : tie.Need-returns-2
 returns-2 c =
@@ -43,4 +28,4 @@ returns-2 c =
 pub point-at-spec : {M : Type 1} → statement M
 point-at-spec =
     tie.close
-    (tie.spec read-cue-requires enum-known-read enum-told number-requires returns cue-start-requires returns-2)
+    (tie.spec (λ c κs. search needs) (λ c. search needs) (λ c. search needs) (λ c κs. search needs) returns (λ c κs. search needs) returns-2)

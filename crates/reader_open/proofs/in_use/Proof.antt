@@ -3,9 +3,6 @@ use borrow.Author.Needs.{needs}
 use Rattle.reader_open.proofs.in_use.Statement.{statement}
 use Rattle.reader_open.proofs.in_use.Tie as tie
 
-no-channel-requires : tie.Need-no-channel-requires
-no-channel-requires c κs = search needs
-
 returns : tie.Need-returns
 returns c = rw (eq-eqb (c .before .args .count) 2 (c .if1 .taken))
 
@@ -13,4 +10,4 @@ returns-2 : tie.Need-returns-2
 returns-2 c = rw (c .no-channel .ensures, ne-eqb (c .before .before .args .count) 2 (c .before .if1 .left))
 
 pub in-use-spec : {M : Type 1} → statement M
-in-use-spec = tie.close (tie.spec no-channel-requires returns returns-2)
+in-use-spec = tie.close (tie.spec (λ c κs. search needs) returns returns-2)

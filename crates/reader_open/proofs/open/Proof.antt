@@ -49,26 +49,8 @@ after-right : (c : tie.After-walk-blocks)
     (c .before .before .before .before .read-channel2 .result .channel))
 after-right c = after-left (c .before .before .before .before) ∙ on-value _ _ (beside-read _ (c .before .before .before .before .read-channel2 .ensures .0) (c .before .before .enum-told7 .given .1))
 
-refused-requires : tie.Need-refused-requires
-refused-requires c κs = search needs
-
 returns : tie.Need-returns
 returns c = and-readable _ _ (refuses _ 7 (c .refused .ensures) (too-long _ (c .before .if1 .taken)))
-
-read-magic-requires : tie.Need-read-magic-requires
-read-magic-requires c κs = search needs
-
-enum-told : tie.Need-enum-told
-enum-told c = search needs
-
-enum-told-2 : tie.Need-enum-told-2
-enum-told-2 c = search needs
-
-number-requires : tie.Need-number-requires
-number-requires c κs = search needs
-
-refused-requires-2 : tie.Need-refused-requires-2
-refused-requires-2 c κs = search needs
 
 returns-2 : tie.Need-returns-2
 returns-2 c =
@@ -78,41 +60,11 @@ returns-2 c =
     (not-long s (c .before .before .before .before .before .if1 .left)
     ∙ on-refused _ _ (magic-refused (c .before .before .before .before .read-magic .ensures) (c .before .before .enum-told2 .given .1) (c .before .number .ensures))))
 
-read-u32-requires : tie.Need-read-u32-requires
-read-u32-requires c κs = search needs
-
-enum-known-read : tie.Need-enum-known-read
-enum-known-read c = search needs
-
-enum-told-3 : tie.Need-enum-told-3
-enum-told-3 c = search needs
-
-number-requires-2 : tie.Need-number-requires-2
-number-requires-2 c κs = search needs
-
-refused-requires-3 : tie.Need-refused-requires-3
-refused-requires-3 c κs = search needs
-
 returns-3 : tie.Need-returns-3
 returns-3 c =
     and-readable _ _ (refuses _ _ (c .refused3 .ensures)
     (after-magic (c .before .before .before .before)
     ∙ on-refused _ _ (missed u32 (c .before .before .before .before .read-u32 .ensures) (c .before .before .enum-told3 .given .1) (c .before .number2 .ensures) .is)))
-
-read-u32-requires-2 : tie.Need-read-u32-requires-2
-read-u32-requires-2 c κs = search needs
-
-enum-known-read-2 : tie.Need-enum-known-read-2
-enum-known-read-2 c = search needs
-
-enum-told-4 : tie.Need-enum-told-4
-enum-told-4 c = search needs
-
-number-requires-3 : tie.Need-number-requires-3
-number-requires-3 c κs = search needs
-
-refused-requires-4 : tie.Need-refused-requires-4
-refused-requires-4 c κs = search needs
 
 returns-4 : tie.Need-returns-4
 returns-4 c =
@@ -120,29 +72,8 @@ returns-4 c =
     (after-rate (c .before .before .before .before)
     ∙ on-refused _ _ (missed u32 (c .before .before .before .before .read-u322 .ensures) (c .before .before .enum-told4 .given .1) (c .before .number3 .ensures) .is)))
 
-wrong-count-requires : tie.Need-wrong-count-requires
-wrong-count-requires c κs = search needs
-
-refused-requires-5 : tie.Need-refused-requires-5
-refused-requires-5 c κs = search needs
-
 returns-5 : tie.Need-returns-5
 returns-5 c = and-readable _ _ (refuses _ 3 (c .refused5 .ensures) (after-count (c .before .before) ∙ pick-true _ _ (sym (c .before .before .wrong-count .ensures) ∙ c .before .if2 .taken)))
-
-read-channel-requires : tie.Need-read-channel-requires
-read-channel-requires c κs = search needs
-
-enum-told-5 : tie.Need-enum-told-5
-enum-told-5 c = search needs
-
-enum-told-6 : tie.Need-enum-told-6
-enum-told-6 c = search needs
-
-number-requires-4 : tie.Need-number-requires-4
-number-requires-4 c κs = search needs
-
-refused-requires-6 : tie.Need-refused-requires-6
-refused-requires-6 c κs = search needs
 
 returns-6 : tie.Need-returns-6
 returns-6 c =
@@ -150,56 +81,17 @@ returns-6 c =
     (right-count (c .before .before .before .before)
     ∙ on-refused _ _ (beside-number _ (c .before .before .before .before .read-channel .ensures .0) (c .before .before .enum-told6 .given .1) (c .before .number4 .ensures))))
 
-read-channel-requires-2 : tie.Need-read-channel-requires-2
-read-channel-requires-2 c κs = search needs
-
-enum-told-7 : tie.Need-enum-told-7
-enum-told-7 c = search needs
-
-enum-told-8 : tie.Need-enum-told-8
-enum-told-8 c = search needs
-
-number-requires-5 : tie.Need-number-requires-5
-number-requires-5 c κs = search needs
-
-refused-requires-7 : tie.Need-refused-requires-7
-refused-requires-7 c κs = search needs
-
 returns-7 : tie.Need-returns-7
 returns-7 c =
     and-readable _ _ (refuses _ _ (c .refused7 .ensures)
     (after-left (c .before .before .before .before)
     ∙ on-refused _ _ (beside-number _ (c .before .before .before .before .read-channel2 .ensures .0) (c .before .before .enum-told8 .given .1) (c .before .number5 .ensures))))
 
-slice-aggregate-walk-blocks : tie.Need-slice-aggregate-walk-blocks
-slice-aggregate-walk-blocks c = search needs
-
-walk-blocks-requires : tie.Need-walk-blocks-requires
-walk-blocks-requires c κs = search needs
-
-enum-told-9 : tie.Need-enum-told-9
-enum-told-9 c = search needs
-
-enum-known-end : tie.Need-enum-known-end
-enum-known-end c = search needs
-
-enum-known-end-2 : tie.Need-enum-known-end-2
-enum-known-end-2 c = search needs
-
-refused-requires-8 : tie.Need-refused-requires-8
-refused-requires-8 c κs = search needs
-
 returns-8 : tie.Need-returns-8
 returns-8 c =
     and-readable _ _
     (refuses _ _ (c .refused8 .ensures) (walk-stops _ _ _ _ _ (after-right (c .before .before .before .before .before))
     (c .before .before .before .before .before .walk-blocks .ensures) _ (c .before .before .end2 .given .1)))
-
-in-use-requires : tie.Need-in-use-requires
-in-use-requires c κs = search needs
-
-cast-t20 : tie.Need-cast-t20
-cast-t20 c = search needs
 
 returns-9 : tie.Need-returns-9
 returns-9 c =
@@ -211,48 +103,48 @@ pub open-spec : {M : Type 1} → statement M
 open-spec =
     tie.close
     (tie.spec
-    refused-requires
+    (λ c κs. search needs)
     returns
-    read-magic-requires
-    enum-told
-    enum-told-2
-    number-requires
-    refused-requires-2
+    (λ c κs. search needs)
+    (λ c. search needs)
+    (λ c. search needs)
+    (λ c κs. search needs)
+    (λ c κs. search needs)
     returns-2
-    read-u32-requires
-    enum-known-read
-    enum-told-3
-    number-requires-2
-    refused-requires-3
+    (λ c κs. search needs)
+    (λ c. search needs)
+    (λ c. search needs)
+    (λ c κs. search needs)
+    (λ c κs. search needs)
     returns-3
-    read-u32-requires-2
-    enum-known-read-2
-    enum-told-4
-    number-requires-3
-    refused-requires-4
+    (λ c κs. search needs)
+    (λ c. search needs)
+    (λ c. search needs)
+    (λ c κs. search needs)
+    (λ c κs. search needs)
     returns-4
-    wrong-count-requires
-    refused-requires-5
+    (λ c κs. search needs)
+    (λ c κs. search needs)
     returns-5
-    read-channel-requires
-    enum-told-5
-    enum-told-6
-    number-requires-4
-    refused-requires-6
+    (λ c κs. search needs)
+    (λ c. search needs)
+    (λ c. search needs)
+    (λ c κs. search needs)
+    (λ c κs. search needs)
     returns-6
-    read-channel-requires-2
-    enum-told-7
-    enum-told-8
-    number-requires-5
-    refused-requires-7
+    (λ c κs. search needs)
+    (λ c. search needs)
+    (λ c. search needs)
+    (λ c κs. search needs)
+    (λ c κs. search needs)
     returns-7
-    slice-aggregate-walk-blocks
-    walk-blocks-requires
-    enum-told-9
-    enum-known-end
-    enum-known-end-2
-    refused-requires-8
+    (λ c. search needs)
+    (λ c κs. search needs)
+    (λ c. search needs)
+    (λ c. search needs)
+    (λ c. search needs)
+    (λ c κs. search needs)
     returns-8
-    in-use-requires
-    cast-t20
+    (λ c κs. search needs)
+    (λ c. search needs)
     returns-9)

@@ -2,11 +2,8 @@ use borrow.Author.Needs.{needs}
 use Rattle.reader_open.proofs.refused.Statement.{statement}
 use Rattle.reader_open.proofs.refused.Tie as tie
 
-no-reader-requires : tie.Need-no-reader-requires
-no-reader-requires c κs = search needs
-
 returns : tie.Need-returns
 returns c = rw (c .no-reader .ensures)
 
 pub refused-spec : {M : Type 1} → statement M
-refused-spec = tie.close (tie.spec no-reader-requires returns)
+refused-spec = tie.close (tie.spec (λ c κs. search needs) returns)

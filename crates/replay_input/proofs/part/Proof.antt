@@ -22,29 +22,17 @@ part-missing : (s : List ℕ) (at n : ℕ) → length s < at + n → [] ≡ part
 unfolding partAt
 part-missing s at n h = rw (lt-leb (at + n) (length s) h)
 
-inside-requires : tie.Need-inside-requires
-inside-requires c κs = search needs
-
 room : (c : tie.Then1) → c .before .before .before .args .at + c .before .before .before .args .n ≤ length (now (c .before .before .before .args .s))
 room c = passed (c .before .inside .ensures) (c .if1 .taken)
 
 add-end : tie.Need-add-end
 add-end c = let h = room c in omega arith
 
-sub-result : tie.Need-sub-result
-sub-result c = search needs
-
-part-result-start : tie.Need-part-result-start
-part-result-start c = search needs
-
 part-result-end : tie.Need-part-result-end
 part-result-end c = let h = room c in omega arith
 
 returns : tie.Need-returns
 returns c = part-there _ _ _ (room (c .before))
-
-slice-aggregate-result : tie.Need-slice-aggregate-result
-slice-aggregate-result c = search needs
 
 returns-2 : tie.Need-returns-2
 returns-2 c = part-missing _ _ _ (failed (c .before .before .inside .ensures) (c .before .if1 .left))
@@ -53,11 +41,11 @@ pub part-spec : {M : Type 1} → statement M
 part-spec =
     tie.close
     (tie.spec
-    inside-requires
+    (λ c κs. search needs)
     add-end
-    sub-result
-    part-result-start
+    (λ c. search needs)
+    (λ c. search needs)
     part-result-end
     returns
-    slice-aggregate-result
+    (λ c. search needs)
     returns-2)

@@ -4,9 +4,6 @@ use Rattle.script_groups.proofs.OrderLaws.{no-begin}
 use Rattle.script_groups.proofs.is_begin.Statement.{statement}
 use Rattle.script_groups.proofs.is_begin.Tie as tie
 
-enum-told : tie.Need-enum-told
-enum-told c = search needs
-
 returns : tie.Need-returns
 returns c = rw (c .enum-told .given .1)
 
@@ -14,4 +11,4 @@ returns-2 : tie.Need-returns-2
 returns-2 c = sym (no-begin (c .before .args .kind) (c .match .keys2))
 
 pub is-begin-spec : {M : Type 1} → statement M
-is-begin-spec = tie.close (tie.spec enum-told returns returns-2)
+is-begin-spec = tie.close (tie.spec (λ c. search needs) returns returns-2)

@@ -3,12 +3,6 @@ use Rattle.script_groups.proofs.OrderLaws.{lent-set, lent-kept}
 use Rattle.script_groups.proofs.lent_after.Statement.{statement}
 use Rattle.script_groups.proofs.lent_after.Tie as tie
 
-enum-told : tie.Need-enum-told
-enum-told c = search needs
-
-lent-line-requires : tie.Need-lent-line-requires
-lent-line-requires c κs = search needs
-
 returns : tie.Need-returns
 returns c = lent-set _ _ (c .before .enum-told .given .1) (c .lent-line .ensures)
 
@@ -16,4 +10,4 @@ returns-2 : tie.Need-returns-2
 returns-2 c = lent-kept (c .before .before .args .kind) _ (c .match .keys2)
 
 pub lent-after-spec : {M : Type 1} → statement M
-lent-after-spec = tie.close (tie.spec enum-told lent-line-requires returns returns-2)
+lent-after-spec = tie.close (tie.spec (λ c. search needs) (λ c κs. search needs) returns returns-2)

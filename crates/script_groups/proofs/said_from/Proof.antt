@@ -15,23 +15,16 @@ abbrev μ-loop : tie.MeasureT-loop
 loop-holds : tie.Need-loop-holds Inv-loop μ-loop
 loop-holds c = seek-none _ _
 
-line-at-requires : tie.Need-line-at-requires Inv-loop μ-loop
-line-at-requires c κs = search needs
-
-word-count-requires : tie.Need-word-count-requires Inv-loop μ-loop
-word-count-requires c κs = search needs
-
 returns : tie.Need-returns Inv-loop μ-loop
-returns c = seek-found (c .before .before .before .before .loop .inv) (c .before .before .before .loop-test .taken) (c .before .before .line-at .ensures) (c .before .word-count .ensures) (c .if1 .taken)
-
-next-line-requires : tie.Need-next-line-requires Inv-loop μ-loop
-next-line-requires c κs = search needs
+returns c = seek-found (c .before .before .before .before .loop .inv) (c .before .before .before .loop-test .taken) (c .before .before .line-at .ensures) (c .before .word-count .ensures)
+    (c .if1 .taken)
 
 loop-less : tie.Need-loop-less Inv-loop μ-loop
 loop-less c = omega (arith, c .next-line .ensures .1 .1 (c .before .before .before .before .loop-test .taken))
 
 loop-again : tie.Need-loop-again Inv-loop μ-loop
-loop-again c = seek-more (c .before .before .before .before .before .loop .inv) (c .before .before .before .before .loop-test .taken) (c .before .before .before .line-at .ensures) (c .before .before .word-count .ensures) (c .before .if1 .left) (c .next-line .ensures .0)
+loop-again c = seek-more (c .before .before .before .before .before .loop .inv) (c .before .before .before .before .loop-test .taken) (c .before .before .before .line-at .ensures)
+    (c .before .before .word-count .ensures) (c .before .if1 .left) (c .next-line .ensures .0)
 
 returns-2 : tie.Need-returns-2 Inv-loop μ-loop
 returns-2 c = seek-end (c .before .loop .inv) (search needs)
@@ -43,10 +36,10 @@ said-from-spec =
     Inv-loop
     μ-loop
     loop-holds
-    line-at-requires
-    word-count-requires
+    (λ c κs. search needs)
+    (λ c κs. search needs)
     returns
-    next-line-requires
+    (λ c κs. search needs)
     loop-less
     loop-again
     returns-2)

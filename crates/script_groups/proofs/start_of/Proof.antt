@@ -15,29 +15,17 @@ abbrev μ-loop : tie.MeasureT-loop
 loop-holds : tie.Need-loop-holds Inv-loop μ-loop
 loop-holds c = opens-none _ _
 
-line-at-requires : tie.Need-line-at-requires Inv-loop μ-loop
-line-at-requires c κs = search needs
-
-kind-of-requires : tie.Need-kind-of-requires Inv-loop μ-loop
-kind-of-requires c κs = search needs
-
-is-begin-requires : tie.Need-is-begin-requires Inv-loop μ-loop
-is-begin-requires c κs = search needs
-
 returns : tie.Need-returns Inv-loop μ-loop
-returns c = opens-here (c .before .before .before .before .before .loop .inv) (c .before .before .before .before .loop-test .taken) (c .before .before .before .line-at .ensures) (c .before .before .kind-of .ensures) (c .before .is-begin .ensures) (c .if1 .taken)
-
-lent-after-requires : tie.Need-lent-after-requires Inv-loop μ-loop
-lent-after-requires c κs = search needs
-
-next-line-requires : tie.Need-next-line-requires Inv-loop μ-loop
-next-line-requires c κs = search needs
+returns c = opens-here (c .before .before .before .before .before .loop .inv) (c .before .before .before .before .loop-test .taken) (c .before .before .before .line-at .ensures)
+    (c .before .before .kind-of .ensures) (c .before .is-begin .ensures) (c .if1 .taken)
 
 loop-less : tie.Need-loop-less Inv-loop μ-loop
 loop-less c = omega (arith, c .next-line .ensures .1 .1 (c .before .before .before .before .before .before .loop-test .taken))
 
 loop-again : tie.Need-loop-again Inv-loop μ-loop
-loop-again c = opens-later (c .before .before .before .before .before .before .before .loop .inv) (c .before .before .before .before .before .before .loop-test .taken) (c .before .before .before .before .before .line-at .ensures) (c .before .before .before .before .kind-of .ensures) (c .before .before .before .is-begin .ensures) (c .before .before .if1 .left) (c .before .lent-after .ensures) (c .next-line .ensures .0)
+loop-again c = opens-later (c .before .before .before .before .before .before .before .loop .inv) (c .before .before .before .before .before .before .loop-test .taken)
+    (c .before .before .before .before .before .line-at .ensures) (c .before .before .before .before .kind-of .ensures) (c .before .before .before .is-begin .ensures)
+    (c .before .before .if1 .left) (c .before .lent-after .ensures) (c .next-line .ensures .0)
 
 returns-2 : tie.Need-returns-2 Inv-loop μ-loop
 returns-2 c = opens-never (c .before .loop .inv) (search needs)
@@ -49,12 +37,12 @@ start-of-spec =
     Inv-loop
     μ-loop
     loop-holds
-    line-at-requires
-    kind-of-requires
-    is-begin-requires
+    (λ c κs. search needs)
+    (λ c κs. search needs)
+    (λ c κs. search needs)
     returns
-    lent-after-requires
-    next-line-requires
+    (λ c κs. search needs)
+    (λ c κs. search needs)
     loop-less
     loop-again
     returns-2)

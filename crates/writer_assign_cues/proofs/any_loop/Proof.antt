@@ -17,9 +17,6 @@ use Rattle.writer_assign_cues.proofs.has_loop.Reads as has-loop-reads
 table : (s : tie.Start) → length (s .args .cues) ≡ cueLimit
 table s = search needs
 
-least-requires : tie.Need-least-requires
-least-requires c κs = search needs
-
 has-loop-requires : tie.Need-has-loop-requires
 has-loop-requires c κs = omega (arith, c .least .ensures)
 
@@ -29,4 +26,4 @@ returns c =
     c .has-loop .ensures ∙ ap (λ (l : List Cue). anyLoop l) (same-part (s .args .cues) (s .args .count) _ (table s) (c .before .least .ensures) 0)
 
 pub any-loop-spec : {M : Type 1} → statement M
-any-loop-spec = tie.close (tie.spec least-requires has-loop-requires returns)
+any-loop-spec = tie.close (tie.spec (λ c κs. search needs) has-loop-requires returns)

@@ -16,20 +16,8 @@ abbrev μ-loop : tie.MeasureT-loop
 loop-holds : tie.Need-loop-holds Inv-loop μ-loop
 loop-holds c = search (below-start, needs)
 
-mul-cue : tie.Need-mul-cue Inv-loop μ-loop
-mul-cue c = omega arith
-
-array-copy-out-cue : tie.Need-array-copy-out-cue Inv-loop μ-loop
-array-copy-out-cue c = omega arith
-
 returns : tie.Need-returns Inv-loop μ-loop
 returns c = (search (below-stop, needs), omega arith, omega arith)
-
-add-k : tie.Need-add-k Inv-loop μ-loop
-add-k c = omega arith
-
-loop-less : tie.Need-loop-less Inv-loop μ-loop
-loop-less c = omega arith
 
 loop-again : tie.Need-loop-again Inv-loop μ-loop
 loop-again c =
@@ -45,10 +33,10 @@ below-spec =
     Inv-loop
     μ-loop
     loop-holds
-    mul-cue
-    array-copy-out-cue
+    (λ c. omega arith)
+    (λ c. omega arith)
     returns
-    add-k
-    loop-less
+    (λ c. omega arith)
+    (λ c. omega arith)
     loop-again
     returns-2)

@@ -20,23 +20,8 @@ abbrev μ-loop : tie.MeasureT-loop
 loop-holds : tie.Need-loop-holds Inv-loop μ-loop
 loop-holds c = (omega arith, refl)
 
-mul-cue : tie.Need-mul-cue Inv-loop μ-loop
-mul-cue c = omega arith
-
-array-copy-out-cue : tie.Need-array-copy-out-cue Inv-loop μ-loop
-array-copy-out-cue c = omega arith
-
-loops-requires : tie.Need-loops-requires Inv-loop μ-loop
-loops-requires c κs = search needs
-
 returns : tie.Need-returns Inv-loop μ-loop
 returns c = search (loop-found, needs)
-
-add-k : tie.Need-add-k Inv-loop μ-loop
-add-k c = omega arith
-
-loop-less : tie.Need-loop-less Inv-loop μ-loop
-loop-less c = omega arith
 
 loop-again : tie.Need-loop-again Inv-loop μ-loop
 loop-again c = (omega arith, search (loop-not, needs))
@@ -51,11 +36,11 @@ has-loop-spec =
     Inv-loop
     μ-loop
     loop-holds
-    mul-cue
-    array-copy-out-cue
-    loops-requires
+    (λ c. omega arith)
+    (λ c. omega arith)
+    (λ c κs. search needs)
     returns
-    add-k
-    loop-less
+    (λ c. omega arith)
+    (λ c. omega arith)
     loop-again
     returns-2)

@@ -36,31 +36,21 @@ counted c =
     let s = c .before .before .before .before in
     tally-few (s .args .cues) (s .args .from) _ (table s) (omega (arith, c .before .before .least .ensures)) (omega (arith, c .before .if1 .taken)) (c .tally .ensures)
 
-least-requires : tie.Need-least-requires
-least-requires c κs = search needs
-
 tally-requires : tie.Need-tally-requires
 tally-requires c κs = (omega arith, omega (arith, c .before .least .ensures))
 
 mul-align : tie.Need-mul-align
 mul-align c = omega (arith, counted (c .before) .1)
 
-align-requires : tie.Need-align-requires
-align-requires c κs = search needs
-
-inside-requires : tie.Need-inside-requires
-inside-requires c κs = search needs
-
 put-within-requires : tie.Need-put-within-requires
 put-within-requires c κs =
     let t = c .before .before .before .before .before in
     let k = counted t in
     let s = t .before .before .before .before in
-    let room : s .args .at + c .before .before .before .align .result ≤ length (s .args .buf .now) = passed (c .before .before .inside .ensures) (c .before .if2 .taken) in
-    (omega (arith, t .before .before .least .ensures), (record { above = omega (arith, t .before .if1 .taken); counted = k .0 }, omega (arith, room, cues-size _ _ (c .before .before .before .align .ensures) (k .1))))
-
-same-length : tie.Need-same-length
-same-length c = search needs
+    let room : s .args .at + c .before .before .before .align .result ≤ length (s .args .buf .now) = passed (c .before .before .inside .ensures) (c .before .if2 .taken) in (
+      omega (arith, t .before .before .least .ensures),
+      (record { above = omega (arith, t .before .if1 .taken); counted = k .0 }, omega (arith, room, cues-size _ _ (c .before .before .before .align .ensures) (k .1))),
+    )
 
 returns : tie.Need-returns
 returns c =
@@ -88,13 +78,13 @@ pub put-taken-spec : {M : Type 1} → statement M
 put-taken-spec =
     tie.close
     (tie.spec
-    least-requires
+    (λ c κs. search needs)
     tally-requires
     mul-align
-    align-requires
-    inside-requires
+    (λ c κs. search needs)
+    (λ c κs. search needs)
     put-within-requires
-    same-length
+    (λ c. search needs)
     returns
     returns-2
     returns-3)

@@ -21,15 +21,9 @@ mul-put-fillers c = let s = c .before .before .before .before .before .before in
 add-put-fillers : tie.Need-add-put-fillers
 add-put-fillers c = let s = c .before .before .before .before .before .before in omega (arith, fill-place (s .args .at) (s .args .points) _ (s .pre .1 .1))
 
-put-fillers-requires : tie.Need-put-fillers-requires
-put-fillers-requires c κs = search needs
-
-same-length : tie.Need-same-length
-same-length c = search needs
-
 returns : tie.Need-returns
 returns c = search (taken-put, needs)
 
 pub put-within-spec : {M : Type 1} → statement M
 put-within-spec =
-    tie.close (tie.spec put-points-requires mul-put-fillers add-put-fillers put-fillers-requires same-length returns)
+    tie.close (tie.spec put-points-requires mul-put-fillers add-put-fillers (λ c κs. search needs) (λ c. search needs) returns)

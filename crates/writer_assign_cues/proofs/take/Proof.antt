@@ -14,9 +14,6 @@ use Rattle.writer_assign_cues.proofs.take_within.Reads as take-within-r
 table : (s : tie.Start) → length (s .args .cues) ≡ cueLimit
 table s = search needs
 
-least-requires : tie.Need-least-requires
-least-requires c κs = search needs
-
 take-within-requires : tie.Need-take-within-requires
 take-within-requires c κs = (omega arith, omega (arith, c .before .least .ensures))
 
@@ -31,4 +28,4 @@ returns-2 c =
     no-cue-left (s .args .cues) (s .args .count) _ (table s) (c .before .least .ensures) (s .args .from) (s .args .end) (s .args .last) (omega arith)
 
 pub take-spec : {M : Type 1} → statement M
-take-spec = tie.close (tie.spec least-requires take-within-requires returns returns-2)
+take-spec = tie.close (tie.spec (λ c κs. search needs) take-within-requires returns returns-2)

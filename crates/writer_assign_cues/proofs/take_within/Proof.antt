@@ -11,23 +11,14 @@ use Rattle.writer_assign_cues.proofs.take_within.Lts as lts
 use Rattle.writer_assign_cues.proofs.below.Reads as below-reads
 use Rattle.writer_assign_cues.proofs.tally.Reads as tally-reads
 
-tally-requires : tie.Need-tally-requires
-tally-requires c κs = search needs
-
 returns : tie.Need-returns
 returns c =
     let s = c .before .before in
     let table : length (s .args .cues) ≡ cueLimit = search needs in
     all-taken (s .args .cues) (s .args .from) (s .args .count) (s .args .end) (s .args .last) (s .pre .0) _ (c .before .if1 .taken) (omega arith) (c .tally .ensures)
 
-below-requires : tie.Need-below-requires
-below-requires c κs = search needs
-
-tally-requires-2 : tie.Need-tally-requires-2
-tally-requires-2 c κs = omega arith
-
 returns-2 : tie.Need-returns-2
 returns-2 c = search (some-taken, needs)
 
 pub take-within-spec : {M : Type 1} → statement M
-take-within-spec = tie.close (tie.spec tally-requires returns below-requires tally-requires-2 returns-2)
+take-within-spec = tie.close (tie.spec (λ c κs. search needs) returns (λ c κs. search needs) (λ c κs. omega arith) returns-2)

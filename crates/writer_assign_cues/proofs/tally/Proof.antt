@@ -17,29 +17,8 @@ abbrev μ-loop : tie.MeasureT-loop
 loop-holds : tie.Need-loop-holds Inv-loop μ-loop
 loop-holds c = search (tally-start, needs)
 
-mul-cue : tie.Need-mul-cue Inv-loop μ-loop
-mul-cue c = omega arith
-
-array-copy-out-cue : tie.Need-array-copy-out-cue Inv-loop μ-loop
-array-copy-out-cue c = omega arith
-
-add-k : tie.Need-add-k Inv-loop μ-loop
-add-k c = omega arith
-
-loops-requires : tie.Need-loops-requires Inv-loop μ-loop
-loops-requires c κs = search needs
-
-loop-less : tie.Need-loop-less Inv-loop μ-loop
-loop-less c = omega arith
-
 loop-again : tie.Need-loop-again Inv-loop μ-loop
 loop-again c = search (tally-loop, needs)
-
-add-points : tie.Need-add-points Inv-loop μ-loop
-add-points c = omega arith
-
-loop-less-2 : tie.Need-loop-less-2 Inv-loop μ-loop
-loop-less-2 c = omega arith
 
 loop-again-2 : tie.Need-loop-again-2 Inv-loop μ-loop
 loop-again-2 c = search (tally-point, needs)
@@ -54,13 +33,13 @@ tally-spec =
     Inv-loop
     μ-loop
     loop-holds
-    mul-cue
-    array-copy-out-cue
-    add-k
-    loops-requires
-    loop-less
+    (λ c. omega arith)
+    (λ c. omega arith)
+    (λ c. omega arith)
+    (λ c κs. search needs)
+    (λ c. omega arith)
     loop-again
-    add-points
-    loop-less-2
+    (λ c. omega arith)
+    (λ c. omega arith)
     loop-again-2
     returns)

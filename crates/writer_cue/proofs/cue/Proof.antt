@@ -4,27 +4,12 @@ use borrow.Author.Needs.{needs}
 use Rattle.writer_cue.proofs.cue.Statement.{statement}
 use Rattle.writer_cue.proofs.cue.Tie as tie
 
-is-bad-requires : tie.Need-is-bad-requires
-is-bad-requires c κs = search needs
-
-search-requires : tie.Need-search-requires
-search-requires c κs = search needs
-
-cue-due-requires : tie.Need-cue-due-requires
-cue-due-requires c κs = search needs
-
-refused-requires : tie.Need-refused-requires
-refused-requires c κs = search needs
-
 returns : tie.Need-returns
 returns c =
     let d = c .before .before in
     let b = d .before .before .before in
     let s = b .before in
     refused-cue (s .args .w) (s .args .c) (s .pre) (b .is-bad .ensures) (d .before .search .ensures) (d .cue-due .ensures) (c .refused .ensures) (c .before .if1 .taken)
-
-accepted-requires : tie.Need-accepted-requires
-accepted-requires c κs = search needs
 
 returns-2 : tie.Need-returns-2
 returns-2 c =
@@ -37,14 +22,10 @@ put-in-requires : tie.Need-put-in-requires
 put-in-requires c κs =
     let d = c .before .before in
     let b = d .before .before .before in
-    let s = b .before in
-    (place-inside (s .args .w) (s .args .c) _ (d .before .search .ensures), room-left (s .args .w .stream .blocks) (b .is-bad .result) _ _ _ (d .cue-due .ensures) (c .before .if1 .left) (c .if2 .left))
-
-add-count : tie.Need-add-count
-add-count c = omega arith
-
-accepted-requires-2 : tie.Need-accepted-requires-2
-accepted-requires-2 c κs = search needs
+    let s = b .before in (
+      place-inside (s .args .w) (s .args .c) _ (d .before .search .ensures),
+      room-left (s .args .w .stream .blocks) (b .is-bad .result) _ _ _ (d .cue-due .ensures) (c .before .if1 .left) (c .if2 .left),
+    )
 
 returns-3 : tie.Need-returns-3
 returns-3 c =
@@ -59,14 +40,14 @@ pub cue-spec : {M : Type 1} → statement M
 cue-spec =
     tie.close
     (tie.spec
-    is-bad-requires
-    search-requires
-    cue-due-requires
-    refused-requires
+    (λ c κs. search needs)
+    (λ c κs. search needs)
+    (λ c κs. search needs)
+    (λ c κs. search needs)
     returns
-    accepted-requires
+    (λ c κs. search needs)
     returns-2
     put-in-requires
-    add-count
-    accepted-requires-2
+    (λ c. omega arith)
+    (λ c κs. search needs)
     returns-3)

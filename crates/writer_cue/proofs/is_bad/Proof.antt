@@ -9,15 +9,6 @@ use Rattle.writer_cue.proofs.is_bad.Tie as tie
 returns : tie.Need-returns
 returns c = let h : startLimit < c .before .args .start = omega arith in search late
 
-enum-told : tie.Need-enum-told
-enum-told c = search needs
-
-enum-told-2 : tie.Need-enum-told-2
-enum-told-2 c = search needs
-
-enum-known-kind : tie.Need-enum-known-kind
-enum-known-kind c = search needs
-
 returns-2 : tie.Need-returns-2
 returns-2 c = search point
 
@@ -30,4 +21,4 @@ returns-4 c = search range
 pub is-bad-spec : {M : Type 1} → statement M
 is-bad-spec =
     tie.close
-    (tie.spec returns enum-told enum-told-2 enum-known-kind returns-2 returns-3 returns-4)
+    (tie.spec returns (λ c. search needs) (λ c. search needs) (λ c. search needs) returns-2 returns-3 returns-4)

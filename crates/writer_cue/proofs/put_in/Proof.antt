@@ -14,32 +14,8 @@ Inv-loop n i t u₀ k₀ u k = (i ≤ k) × (k ≤ n) × (u ≡ paste u₀ (i + 
 abbrev μ-loop : tie.MeasureT-loop
 μ-loop n i t u₀ k₀ u k = n - k
 
-mul-u : tie.Need-mul-u Inv-loop μ-loop
-mul-u c = omega arith
-
-array-set-from-u : tie.Need-array-set-from-u Inv-loop μ-loop
-array-set-from-u c = omega arith
-
 loop-holds : tie.Need-loop-holds Inv-loop μ-loop
 loop-holds c = (omega arith, omega arith, search move-none)
-
-mul-d : tie.Need-mul-d Inv-loop μ-loop
-mul-d c = omega arith
-
-array-copy-out-d : tie.Need-array-copy-out-d Inv-loop μ-loop
-array-copy-out-d c = omega arith
-
-add-k : tie.Need-add-k Inv-loop μ-loop
-add-k c = omega arith
-
-mul-u-2 : tie.Need-mul-u-2 Inv-loop μ-loop
-mul-u-2 c = omega arith
-
-array-set-from-u-2 : tie.Need-array-set-from-u-2 Inv-loop μ-loop
-array-set-from-u-2 c = omega arith
-
-loop-less : tie.Need-loop-less Inv-loop μ-loop
-loop-less c = omega arith
 
 loop-again : tie.Need-loop-again Inv-loop μ-loop
 loop-again c = (omega arith, omega arith, search (move-on, needs))
@@ -53,14 +29,14 @@ put-in-spec =
     (tie.spec
     Inv-loop
     μ-loop
-    mul-u
-    array-set-from-u
+    (λ c. omega arith)
+    (λ c. omega arith)
     loop-holds
-    mul-d
-    array-copy-out-d
-    add-k
-    mul-u-2
-    array-set-from-u-2
-    loop-less
+    (λ c. omega arith)
+    (λ c. omega arith)
+    (λ c. omega arith)
+    (λ c. omega arith)
+    (λ c. omega arith)
+    (λ c. omega arith)
     loop-again
     returns)

@@ -6,12 +6,6 @@ use borrow.Author.Needs.{needs}
 use Rattle.writer_estimate.proofs.block_estimate.Statement.{statement}
 use Rattle.writer_estimate.proofs.block_estimate.Tie as tie
 
-adpcm-bytes-requires : tie.Need-adpcm-bytes-requires
-adpcm-bytes-requires c κs = search needs
-
-align-requires : tie.Need-align-requires
-align-requires c κs = search needs
-
 few : (c : tie.After-align) → blockHeaderSize + c .before .before .args .channels * c .align .result ≤ mostBlock
 few c = block-fits _ _ _ _ (c .before .adpcm-bytes .ensures) (c .align .ensures) (c .before .before .pre)
 
@@ -26,4 +20,4 @@ returns c = is-block _ _ _ _ (c .before .adpcm-bytes .ensures) (c .align .ensure
 
 pub block-estimate-spec : {M : Type 1} → statement M
 block-estimate-spec =
-    tie.close (tie.spec adpcm-bytes-requires align-requires mul-data add-size returns)
+    tie.close (tie.spec (λ c κs. search needs) (λ c κs. search needs) mul-data add-size returns)

@@ -28,12 +28,6 @@ loop-holds c = search none-summed
 mul-n : tie.Need-mul-n Inv-loop μ-loop
 mul-n c = omega (arith, c .before .before .before .before .before .before .good .0 .1)
 
-shared-slice-read-n : tie.Need-shared-slice-read-n Inv-loop μ-loop
-shared-slice-read-n c = omega arith
-
-length-due-requires : tie.Need-length-due-requires Inv-loop μ-loop
-length-due-requires c κs = search needs
-
 returns-4 : tie.Need-returns-4 Inv-loop μ-loop
 returns-4 c = search (bad-length, needs)
 
@@ -55,20 +49,8 @@ again c =
 add-sum : tie.Need-add-sum Inv-loop μ-loop
 add-sum c = omega (arith, again c)
 
-add-i : tie.Need-add-i Inv-loop μ-loop
-add-i c = omega arith
-
-loop-less : tie.Need-loop-less Inv-loop μ-loop
-loop-less c = omega arith
-
 loop-again : tie.Need-loop-again Inv-loop μ-loop
 loop-again c = again c
-
-mul-cues : tie.Need-mul-cues Inv-loop μ-loop
-mul-cues c = omega arith
-
-add-length : tie.Need-add-length Inv-loop μ-loop
-add-length c = omega arith
 
 returns-5 : tie.Need-returns-5 Inv-loop μ-loop
 returns-5 c = search (all-summed, needs)
@@ -84,14 +66,14 @@ estimate-spec =
     returns-3
     loop-holds
     mul-n
-    shared-slice-read-n
-    length-due-requires
+    (λ c. omega arith)
+    (λ c κs. search needs)
     returns-4
     block-estimate-requires
     add-sum
-    add-i
-    loop-less
+    (λ c. omega arith)
+    (λ c. omega arith)
     loop-again
-    mul-cues
-    add-length
+    (λ c. omega arith)
+    (λ c. omega arith)
     returns-5)

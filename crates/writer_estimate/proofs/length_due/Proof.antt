@@ -8,12 +8,6 @@ use Rattle.writer_estimate.proofs.length_due.Tie as tie
 returns : tie.Need-returns
 returns c = let h : c .before .args .n < 2 = omega arith in search length-10
 
-adpcm-bytes-requires : tie.Need-adpcm-bytes-requires
-adpcm-bytes-requires c κs = search needs
-
-size-limit-requires : tie.Need-size-limit-requires
-size-limit-requires c κs = search needs
-
 returns-2 : tie.Need-returns-2
 returns-2 c = search (length-13, needs)
 
@@ -22,4 +16,4 @@ returns-3 c = search (length-fine, needs)
 
 pub length-due-spec : {M : Type 1} → statement M
 length-due-spec =
-    tie.close (tie.spec returns adpcm-bytes-requires size-limit-requires returns-2 returns-3)
+    tie.close (tie.spec returns (λ c κs. search needs) (λ c κs. search needs) returns-2 returns-3)

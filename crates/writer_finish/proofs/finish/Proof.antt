@@ -7,12 +7,6 @@ use Rattle.writer_finish.proofs.finish.Statement.{statement}
 use Rattle.writer_finish.proofs.finish.Tie as tie
 use Rattle.layout.specs.Records.{fileHeaderSize}
 
-finish-due-requires : tie.Need-finish-due-requires
-finish-due-requires c κs = search needs
-
-refused-requires : tie.Need-refused-requires
-refused-requires c κs = search needs
-
 returns : tie.Need-returns
 returns c = (search (refused-answer, needs), (search (refused-lent, needs), search (refused-good, needs)))
 
@@ -21,9 +15,6 @@ header-requires c κs =
     let d = c .before .before .before in
     let s = d .before .before .before in
     sum-fits (s .args .w) (s .args .lent .now) (s .pre) _ (d .finish-due .ensures) (c .before .before .if1 .left)
-
-slice-aggregate-hand-out : tie.Need-slice-aggregate-hand-out
-slice-aggregate-hand-out c = search needs
 
 size : (c : tie.After-header) → length (c .header .result) ≡ fileHeaderSize
 size c = search needs
@@ -34,26 +25,24 @@ hand-out-requires c κs =
     let s = d .before .before .before in
     (size (c .before .before), room (s .args .w) (s .args .lent .now) (s .pre) _ (d .finish-due .ensures) (c .before .before .before .before .before .if1 .left))
 
-same-length : tie.Need-same-length
-same-length c = search needs
-
 returns-2 : tie.Need-returns-2
 unfolding headerOf afterFinish
 returns-2 c =
     let h = c .before .before .before .before .before .before .before .before in
     let d = h .before .before .before .before in
     let s = d .before .before .before in
-    finish-accepted (s .args .w) (s .args .lent .now) (s .pre) _ (d .finish-due .ensures) (h .before .before .before .if1 .left) (h .header .result) _ _ (h .header .ensures) (size h) (c .before .before .before .before .before .hand-out .ensures) refl
+    finish-accepted (s .args .w) (s .args .lent .now) (s .pre) _ (d .finish-due .ensures) (h .before .before .before .if1 .left) (h .header .result) _ _ (h .header .ensures) (size h)
+    (c .before .before .before .before .before .hand-out .ensures) refl
 
 pub finish-spec : {M : Type 1} → statement M
 finish-spec =
     tie.close
     (tie.spec
-    finish-due-requires
-    refused-requires
+    (λ c κs. search needs)
+    (λ c κs. search needs)
     returns
     header-requires
-    slice-aggregate-hand-out
+    (λ c. search needs)
     hand-out-requires
-    same-length
+    (λ c. search needs)
     returns-2)

@@ -5,21 +5,6 @@ use borrow.Author.Needs.{needs}
 use Rattle.writer_finish.proofs.header.Statement.{statement}
 use Rattle.writer_finish.proofs.header.Tie as tie
 
-filled-requires : tie.Need-filled-requires
-filled-requires c κs = search needs
-
-second-requires : tie.Need-second-requires
-second-requires c κs = search needs
-
-slice-aggregate-put-file-header : tie.Need-slice-aggregate-put-file-header
-slice-aggregate-put-file-header c = search needs
-
-low-bits-requires : tie.Need-low-bits-requires
-low-bits-requires c κs = search needs
-
-put-file-header-requires : tie.Need-put-file-header-requires
-put-file-header-requires c κs = search needs
-
 left-16 : (c : tie.Start) → length (c .args .left .coefficients) ≡ 16
 left-16 c = search needs
 
@@ -31,15 +16,16 @@ returns c =
     let k = c .before .before in
     let t = k .before .before in
     let s = t .before .before in
-    header-is _ (s .args .channels) (s .args .sum) _ (s .args .left) (s .args .right) _ _ (left-16 s) (right-16 s) (t .before .filled .ensures) (t .second .ensures) (k .low-bits .ensures) (c .before .put-file-header .ensures)
+    header-is _ (s .args .channels) (s .args .sum) _ (s .args .left) (s .args .right) _ _ (left-16 s) (right-16 s) (t .before .filled .ensures) (t .second .ensures) (k .low-bits .ensures)
+    (c .before .put-file-header .ensures)
 
 pub header-spec : {M : Type 1} → statement M
 header-spec =
     tie.close
     (tie.spec
-    filled-requires
-    second-requires
-    slice-aggregate-put-file-header
-    low-bits-requires
-    put-file-header-requires
+    (λ c κs. search needs)
+    (λ c κs. search needs)
+    (λ c. search needs)
+    (λ c κs. search needs)
+    (λ c κs. search needs)
     returns)

@@ -45,22 +45,10 @@ worked p =
 
 -- ---- The needs
 
-block-end-requires : tie.Need-block-end-requires
-block-end-requires c κs = search needs
-
-take-requires : tie.Need-take-requires
-take-requires c κs = search needs
-
-any-loop-requires : tie.Need-any-loop-requires
-any-loop-requires c κs = search needs
-
 plan-push-requires : tie.Need-plan-push-requires
 plan-push-requires c κs =
     let s = start c in
     parts-good (s .args .w) (s .pre)
-
-refused-requires : tie.Need-refused-requires
-refused-requires c κs = search needs
 
 returns : tie.Need-returns
 returns c =
@@ -68,18 +56,6 @@ returns c =
     let s = start (p .before) in
     let q = push-refused (s .args .w) (pushed s) (s .args .lent .now) _ (due-is (worked p)) (c .before .if1 .taken) _ (c .refused .ensures) in
     (q .0, (q .1, rw (c .refused .ensures) (s .pre)))
-
-put-header-requires : tie.Need-put-header-requires
-put-header-requires c κs = search needs
-
-put-taken-requires : tie.Need-put-taken-requires
-put-taken-requires c κs = search needs
-
-put-data-requires : tie.Need-put-data-requires
-put-data-requires c κs = search needs
-
-same-length : tie.Need-same-length
-same-length c = search needs
 
 returns-2 : tie.Need-returns-2
 returns-2 c =
@@ -89,7 +65,8 @@ returns-2 c =
     let k = worked p in
     let z = e .if1 .left in
     let a = after-is k z in
-    let b = bytes-are k z _ _ _ (c .before .before .before .before .before .before .before .before .before .before .before .before .before .put-header .ensures) (c .before .before .before .before .before .before .before .before .before .put-taken .ensures) (c .before .before .before .before .before .put-data .ensures) in
+    let b = bytes-are k z _ _ _ (c .before .before .before .before .before .before .before .before .before .before .before .before .before .put-header .ensures)
+    (c .before .before .before .before .before .before .before .before .before .put-taken .ensures) (c .before .before .before .before .before .put-data .ensures) in
     let q = push-accepted (s .args .w) (pushed s) (s .args .lent .now) _ (due-is k) z _ _ _ a (sized k z) (room k z .1) b in
     (q .0, (q .1, rw a (push-good (s .args .w) (pushed s) _ (s .pre) (sym (due-is k) ∙ z))))
 
@@ -97,14 +74,14 @@ pub push-spec : {M : Type 1} → statement M
 push-spec =
     tie.close
     (tie.spec
-    block-end-requires
-    take-requires
-    any-loop-requires
+    (λ c κs. search needs)
+    (λ c κs. search needs)
+    (λ c κs. search needs)
     plan-push-requires
-    refused-requires
+    (λ c κs. search needs)
     returns
-    put-header-requires
-    put-taken-requires
-    put-data-requires
-    same-length
+    (λ c κs. search needs)
+    (λ c κs. search needs)
+    (λ c κs. search needs)
+    (λ c. search needs)
     returns-2)

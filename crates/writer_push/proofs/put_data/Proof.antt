@@ -12,18 +12,6 @@ use Rattle.layout.proofs.fields.inside.Reads as inside-reads
 use Rattle.layout_sizes.proofs.align.Reads as align-reads
 use Rattle.layout_put_block.proofs.put_padded.Reads as put-padded-reads
 
-align-requires : tie.Need-align-requires
-align-requires c κs = search needs
-
-inside-requires : tie.Need-inside-requires
-inside-requires c κs = search needs
-
-put-padded-requires : tie.Need-put-padded-requires
-put-padded-requires c κs = search needs
-
-same-length : tie.Need-same-length
-same-length c = search needs
-
 returns : tie.Need-returns
 returns c = search (mono-put, needs)
 
@@ -34,55 +22,44 @@ first c = passed (c .before .before .inside .ensures) (c .before .if1 .taken)
 add-next : tie.Need-add-next
 add-next c = omega (arith, first c)
 
-align-requires-2 : tie.Need-align-requires-2
-align-requires-2 c κs = search needs
-
-inside-requires-2 : tie.Need-inside-requires-2
-inside-requires-2 c κs = search needs
-
-put-padded-requires-2 : tie.Need-put-padded-requires-2
-put-padded-requires-2 c κs = search needs
-
-put-padded-requires-3 : tie.Need-put-padded-requires-3
-put-padded-requires-3 c κs = search needs
-
-same-length-2 : tie.Need-same-length-2
-same-length-2 c = search needs
-
 returns-2 : tie.Need-returns-2
 returns-2 c =
     let e = c .before .before .before .before .before .before .before .before .before .before .before in
     let s = e .before .before .before .before .before .before .before in
-    stereo-put (s .args .buf .now) (s .args .left .now) (s .args .right .now) (s .args .at) (s .args .channels) (omega arith) _ (e .before .before .before .align .ensures) (e .if2 .left) (omega arith) _ (c .before .before .before .before .before .before .before .before .before .before .align2 .ensures)
-    (passed (c .before .before .before .before .before .before .before .before .before .inside2 .ensures) (c .before .before .before .before .before .before .before .before .if3 .taken)) _ _ (c .before .before .before .before .before .before .put-padded2 .ensures) (c .before .before .put-padded3 .ensures)
+    stereo-put (s .args .buf .now) (s .args .left .now) (s .args .right .now) (s .args .at) (s .args .channels) (omega arith) _ (e .before .before .before .align .ensures) (e .if2 .left)
+    (omega arith) _ (c .before .before .before .before .before .before .before .before .before .before .align2 .ensures)
+    (passed (c .before .before .before .before .before .before .before .before .before .inside2 .ensures) (c .before .before .before .before .before .before .before .before .if3 .taken)) _ _
+    (c .before .before .before .before .before .before .put-padded2 .ensures) (c .before .before .put-padded3 .ensures)
 
 returns-3 : tie.Need-returns-3
 returns-3 c =
     let e = c .before .before .before in
     let s = e .before .before .before .before .before .before .before in
-    second-out (s .args .buf .now) (s .args .left .now) (s .args .right .now) (s .args .at) (s .args .channels) (omega arith) _ (e .before .before .before .align .ensures) (e .if2 .left) (omega arith) _ (c .before .before .align2 .ensures)
+    second-out (s .args .buf .now) (s .args .left .now) (s .args .right .now) (s .args .at) (s .args .channels) (omega arith) _ (e .before .before .before .align .ensures) (e .if2 .left)
+    (omega arith) _ (c .before .before .align2 .ensures)
     (failed (c .before .inside2 .ensures) (c .if3 .left))
 
 returns-4 : tie.Need-returns-4
 returns-4 c =
     let s = c .before .before .before .before .before .before in
-    first-out (s .args .buf .now) (s .args .left .now) (s .args .right .now) (s .args .at) (s .args .channels) (omega arith) _ (c .before .before .align .ensures) (failed (c .before .inside .ensures) (c .if1 .left))
+    first-out (s .args .buf .now) (s .args .left .now) (s .args .right .now) (s .args .at) (s .args .channels) (omega arith) _ (c .before .before .align .ensures)
+    (failed (c .before .inside .ensures) (c .if1 .left))
 
 pub put-data-spec : {M : Type 1} → statement M
 put-data-spec =
     tie.close
     (tie.spec
-    align-requires
-    inside-requires
-    put-padded-requires
-    same-length
+    (λ c κs. search needs)
+    (λ c κs. search needs)
+    (λ c κs. search needs)
+    (λ c. search needs)
     returns
     add-next
-    align-requires-2
-    inside-requires-2
-    put-padded-requires-2
-    put-padded-requires-3
-    same-length-2
+    (λ c κs. search needs)
+    (λ c κs. search needs)
+    (λ c κs. search needs)
+    (λ c κs. search needs)
+    (λ c. search needs)
     returns-2
     returns-3
     returns-4)

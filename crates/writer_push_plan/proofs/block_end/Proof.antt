@@ -7,15 +7,6 @@ use Rattle.writer_push_plan.proofs.block_end.Reads as reads
 use Rattle.writer_push_plan.proofs.block_end.Lts as lts
 use Rattle.layout_sizes.proofs.adpcm_samples.Reads as adpcm-samples-reads
 
-adpcm-samples-requires : tie.Need-adpcm-samples-requires
-adpcm-samples-requires c κs = search needs
-
-sub-if1 : tie.Need-sub-if1
-sub-if1 c = search needs
-
-add-result : tie.Need-add-result
-add-result c = search needs
-
 returns : tie.Need-returns
 returns c =
     let s = c .before .before in
@@ -27,4 +18,4 @@ returns-2 c =
     end-over (s .args .base) (s .args .size) _ (c .before .adpcm-samples .ensures) (c .if1 .left) (omega (arith, s .fits .base .fits))
 
 pub block-end-spec : {M : Type 1} → statement M
-block-end-spec = tie.close (tie.spec adpcm-samples-requires sub-if1 add-result returns returns-2)
+block-end-spec = tie.close (tie.spec (λ c κs. search needs) (λ c. search needs) (λ c. search needs) returns returns-2)

@@ -7,12 +7,6 @@ use Rattle.writer_push_plan.proofs.data_size.Reads as reads
 use Rattle.writer_push_plan.proofs.data_size.Lts as lts
 use Rattle.layout_sizes.proofs.align.Reads as align-reads
 
-align-requires : tie.Need-align-requires
-align-requires c κs = search needs
-
-align-requires-2 : tie.Need-align-requires-2
-align-requires-2 c κs = search needs
-
 add-result : tie.Need-add-result
 add-result c =
     let a = c .before .before .before .args in
@@ -30,4 +24,4 @@ returns-2 : tie.Need-returns-2
 returns-2 c = search (left-size, needs)
 
 pub data-size-spec : {M : Type 1} → statement M
-data-size-spec = tie.close (tie.spec align-requires align-requires-2 add-result returns returns-2)
+data-size-spec = tie.close (tie.spec (λ c κs. search needs) (λ c κs. search needs) add-result returns returns-2)

@@ -7,12 +7,6 @@ use Rattle.writer_push_plan.proofs.data_start.Reads as reads
 use Rattle.writer_push_plan.proofs.data_start.Lts as lts
 use Rattle.layout_sizes.proofs.align.Reads as align-reads
 
-mul-align : tie.Need-mul-align
-mul-align c = search needs
-
-align-requires : tie.Need-align-requires
-align-requires c κs = search needs
-
 add-result : tie.Need-add-result
 add-result c = omega (arith, filled-small (c .before .args .points) _ (c .before .pre) (c .align .ensures))
 
@@ -20,4 +14,4 @@ returns : tie.Need-returns
 returns c = rw (cues-end (c .before .args .points) _ (c .before .pre) (c .align .ensures))
 
 pub data-start-spec : {M : Type 1} → statement M
-data-start-spec = tie.close (tie.spec mul-align align-requires add-result returns)
+data-start-spec = tie.close (tie.spec (λ c. search needs) (λ c κs. search needs) add-result returns)

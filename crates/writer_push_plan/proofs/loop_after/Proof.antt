@@ -5,12 +5,6 @@ use Rattle.writer_push_plan.proofs.loop_after.Tie as tie
 use Rattle.writer_push_plan.proofs.loop_after.Reads as reads
 use Rattle.writer_push_plan.proofs.loop_after.Lts as lts
 
-enum-told : tie.Need-enum-told
-enum-told c = search needs
-
-enum-told-2 : tie.Need-enum-told-2
-enum-told-2 c = search needs
-
 returns : tie.Need-returns
 returns c = search (stays-at, needs)
 
@@ -22,4 +16,4 @@ returns-3 c = search (starts-not, needs)
 
 pub loop-after-spec : {M : Type 1} → statement M
 loop-after-spec =
-    tie.close (tie.spec enum-told enum-told-2 returns returns-2 returns-3)
+    tie.close (tie.spec (λ c. search needs) (λ c. search needs) returns returns-2 returns-3)

@@ -5,20 +5,11 @@ use Rattle.writer_push_plan.proofs.loop_due.Tie as tie
 use Rattle.writer_push_plan.proofs.loop_due.Reads as reads
 use Rattle.writer_push_plan.proofs.loop_due.Lts as lts
 
-enum-told : tie.Need-enum-told
-enum-told c = search needs
-
-enum-told-2 : tie.Need-enum-told-2
-enum-told-2 c = search needs
-
 returns : tie.Need-returns
 returns c = search (loops-held, needs)
 
 returns-2 : tie.Need-returns-2
 returns-2 c = search (loops-last, needs)
-
-enum-told-3 : tie.Need-enum-told-3
-enum-told-3 c = search needs
 
 returns-3 : tie.Need-returns-3
 returns-3 c = search (loops-off, needs)
@@ -33,11 +24,11 @@ pub loop-due-spec : {M : Type 1} → statement M
 loop-due-spec =
     tie.close
     (tie.spec
-    enum-told
-    enum-told-2
+    (λ c. search needs)
+    (λ c. search needs)
     returns
     returns-2
-    enum-told-3
+    (λ c. search needs)
     returns-3
     returns-4
     returns-5)

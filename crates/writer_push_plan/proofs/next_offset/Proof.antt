@@ -4,17 +4,8 @@ use Rattle.writer_push_plan.proofs.next_offset.Tie as tie
 use Rattle.writer_push_plan.proofs.next_offset.Reads as reads
 use Rattle.writer_push_plan.proofs.next_offset.Lts as lts
 
-enum-told : tie.Need-enum-told
-enum-told c = search needs
-
-enum-known-loopat : tie.Need-enum-known-loopat
-enum-known-loopat c = search needs
-
 cast-result : tie.Need-cast-result
 cast-result c = record { fits = c .before .before .before .before .pre .1 _ (c .before .loopat .given .1) }
-
-cast-result-2 : tie.Need-cast-result-2
-cast-result-2 c = search needs
 
 returns : tie.Need-returns
 returns c = search needs
@@ -28,4 +19,4 @@ returns-3 c = search needs
 pub next-offset-spec : {M : Type 1} → statement M
 next-offset-spec =
     tie.close
-    (tie.spec enum-told enum-known-loopat cast-result cast-result-2 returns returns-2 returns-3)
+    (tie.spec (λ c. search needs) (λ c. search needs) cast-result (λ c. search needs) returns returns-2 returns-3)

@@ -55,17 +55,8 @@ room c = fits-room _ _ _ _ _ (c .before .room-due .ensures) (c .if3 .left)
 
 -- ---- The needs
 
-early-due-requires : tie.Need-early-due-requires
-early-due-requires c κs = search needs
-
-no-plan-requires : tie.Need-no-plan-requires
-no-plan-requires c κs = search needs
-
 returns : tie.Need-returns
 returns c = search (plan-early, needs)
-
-no-plan-requires-2 : tie.Need-no-plan-requires-2
-no-plan-requires-2 c κs = search needs
 
 returns-2 : tie.Need-returns-2
 returns-2 c =
@@ -77,18 +68,9 @@ returns-2 c =
 data-size-requires : tie.Need-data-size-requires
 data-size-requires c κs = let h = early-none (first c) in (h .left, h .right)
 
-data-start-requires : tie.Need-data-start-requires
-data-start-requires c κs = search needs
-
 add-size : tie.Need-add-size
 add-size c =
     omega (arith, block-small _ _ _ (c .before .before .if2 .left) (small (c .before)) (ap (λ m. m + c .before .data-size .result) (c .data-start .ensures)))
-
-room-due-requires : tie.Need-room-due-requires
-room-due-requires c κs = search needs
-
-no-plan-requires-3 : tie.Need-no-plan-requires-3
-no-plan-requires-3 c κs = search needs
 
 returns-3 : tie.Need-returns-3
 returns-3 c =
@@ -97,12 +79,6 @@ returns-3 c =
     let s = start e in
     plan-room (s .args .setup) (s .args .s) (s .args .taken) (s .args .held) (s .args .end) (s .args .channels) (s .args .left) (s .args .right) (s .args .left-bytes) (s .args .right-bytes)
     (s .args .last) (s .args .lent) _ (e .before .early-due .ensures) (e .if1 .left) _ _ (sized d) (c .before .before .room-due .ensures) (c .before .if3 .taken) _ (c .no-plan3 .ensures)
-
-loop-due-requires : tie.Need-loop-due-requires
-loop-due-requires c κs = search needs
-
-loop-after-requires : tie.Need-loop-after-requires
-loop-after-requires c κs = search needs
 
 add-next-offset : tie.Need-add-next-offset
 add-next-offset c = let e = c .before .before .before in omega (arith, room e .0, fitted e .pre .small)
@@ -114,9 +90,6 @@ next-offset-requires c κs =
       omega (arith, room e .0, s .pre .small),
       λ n q. omega (arith, loop-near _ _ (s .pre) (c .before .before .loop-due .result) _ (c .before .loop-after .ensures) n q, s .pre .room, s .pre .small),
     )
-
-second-context-requires : tie.Need-second-context-requires
-second-context-requires c κs = search needs
 
 cast-padded : tie.Need-cast-padded
 cast-padded c = record { fits = omega (arith, small (c .before .before .before .before .before .before .before .before .before)) }
@@ -149,29 +122,30 @@ returns-4 c =
     let e = first (c .before .before .before .before .before .before .before .before .before .before .before .before) in
     let s = start e in
     plan-made (s .args .setup) (s .args .s) (s .args .taken) (s .args .held) (s .args .end) (s .args .channels) (s .args .left) (s .args .right) (s .args .left-bytes) (s .args .right-bytes)
-    (s .args .last) (s .args .lent) _ (e .before .early-due .ensures) (e .if1 .left) _ _ (sized d) (f .before .before .before .room-due .ensures) (f .before .before .if3 .left) _ (f .before .loop-due .ensures) _ (f .loop-after .ensures)
+    (s .args .last) (s .args .lent) _ (e .before .early-due .ensures) (e .if1 .left) _ _ (sized d) (f .before .before .before .room-due .ensures) (f .before .before .if3 .left) _
+    (f .before .loop-due .ensures) _ (f .loop-after .ensures)
     _ _ _ _ _ (d .before .data-size .ensures) (d .data-start .ensures) (n .next-offset .ensures) (c .before .before .second-context .ensures) (c .advance .ensures)
 
 pub plan-push-spec : {M : Type 1} → statement M
 plan-push-spec =
     tie.close
     (tie.spec
-    early-due-requires
-    no-plan-requires
+    (λ c κs. search needs)
+    (λ c κs. search needs)
     returns
-    no-plan-requires-2
+    (λ c κs. search needs)
     returns-2
     data-size-requires
-    data-start-requires
+    (λ c κs. search needs)
     add-size
-    room-due-requires
-    no-plan-requires-3
+    (λ c κs. search needs)
+    (λ c κs. search needs)
     returns-3
-    loop-due-requires
-    loop-after-requires
+    (λ c κs. search needs)
+    (λ c κs. search needs)
     add-next-offset
     next-offset-requires
-    second-context-requires
+    (λ c κs. search needs)
     cast-padded
     sub-last-address
     cast-end-address

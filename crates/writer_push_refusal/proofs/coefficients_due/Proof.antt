@@ -11,9 +11,6 @@ returns : tie.Need-returns
 unfolding coefficientsDue
 returns c = search decide depth 7
 
-same-requires : tie.Need-same-requires
-same-requires c κs = search needs
-
 returns-2 : tie.Need-returns-2
 unfolding coefficientsDue
 returns-2 c = search decide depth 7
@@ -21,9 +18,6 @@ returns-2 c = search decide depth 7
 returns-3 : tie.Need-returns-3
 unfolding coefficientsDue
 returns-3 c = search decide depth 7
-
-same-requires-2 : tie.Need-same-requires-2
-same-requires-2 c κs = search needs
 
 returns-4 : tie.Need-returns-4
 unfolding coefficientsDue
@@ -36,4 +30,4 @@ returns-5 c = search decide depth 7
 pub coefficients-due-spec : {M : Type 1} → statement M
 coefficients-due-spec =
     tie.close
-    (tie.spec returns same-requires returns-2 same-requires-2 returns-3 returns-4 returns-5)
+    (tie.spec returns (λ c κs. search needs) returns-2 (λ c κs. search needs) returns-3 returns-4 returns-5)

@@ -7,9 +7,6 @@ use Rattle.writer_push_refusal.proofs.data_due.Reads as reads
 use Rattle.writer_push_refusal.proofs.data_due.Lts as lts
 use Rattle.layout_sizes.proofs.adpcm_bytes.Reads as adpcm-bytes-reads
 
-adpcm-bytes-requires : tie.Need-adpcm-bytes-requires
-adpcm-bytes-requires c κs = search needs
-
 returns : tie.Need-returns
 unfolding dataDue
 returns c = search decide-calls
@@ -17,9 +14,6 @@ returns c = search decide-calls
 returns-2 : tie.Need-returns-2
 unfolding dataDue
 returns-2 c = search decide-calls
-
-adpcm-bytes-requires-2 : tie.Need-adpcm-bytes-requires-2
-adpcm-bytes-requires-2 c κs = search needs
 
 returns-3 : tie.Need-returns-3
 unfolding dataDue
@@ -32,4 +26,4 @@ returns-4 c = search decide-calls
 pub data-due-spec : {M : Type 1} → statement M
 data-due-spec =
     tie.close
-    (tie.spec adpcm-bytes-requires returns returns-2 adpcm-bytes-requires-2 returns-3 returns-4)
+    (tie.spec (λ c κs. search needs) returns returns-2 (λ c κs. search needs) returns-3 returns-4)

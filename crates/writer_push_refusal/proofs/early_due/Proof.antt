@@ -11,36 +11,21 @@ use Rattle.writer_push_refusal.proofs.length_due.Reads as length-due-re
 use Rattle.writer_push_refusal.proofs.rate_due.Reads as rate-due-reads
 use Rattle.writer_push_refusal.proofs.state_due.Reads as state-due-reads
 
-state-due-requires : tie.Need-state-due-requires
-state-due-requires c κs = search needs
-
 returns : tie.Need-returns
 unfolding earlyDue
 returns c = search grouped
-
-rate-due-requires : tie.Need-rate-due-requires
-rate-due-requires c κs = search needs
 
 returns-2 : tie.Need-returns-2
 unfolding earlyDue
 returns-2 c = search grouped
 
-length-due-requires : tie.Need-length-due-requires
-length-due-requires c κs = search needs
-
 returns-3 : tie.Need-returns-3
 unfolding earlyDue
 returns-3 c = search grouped
 
-data-due-requires : tie.Need-data-due-requires
-data-due-requires c κs = search needs
-
 returns-4 : tie.Need-returns-4
 unfolding earlyDue
 returns-4 c = search grouped
-
-coefficients-due-requires : tie.Need-coefficients-due-requires
-coefficients-due-requires c κs = search needs
 
 returns-5 : tie.Need-returns-5
 unfolding earlyDue
@@ -50,13 +35,13 @@ pub early-due-spec : {M : Type 1} → statement M
 early-due-spec =
     tie.close
     (tie.spec
-    state-due-requires
+    (λ c κs. search needs)
     returns
-    rate-due-requires
+    (λ c κs. search needs)
     returns-2
-    length-due-requires
+    (λ c κs. search needs)
     returns-3
-    data-due-requires
+    (λ c κs. search needs)
     returns-4
-    coefficients-due-requires
+    (λ c κs. search needs)
     returns-5)

@@ -9,9 +9,6 @@ use Rattle.layout_sizes.proofs.adpcm_bytes.Reads as adpcm-bytes-reads
 use Rattle.writer_push_refusal.proofs.differ.Reads as differ-reads
 use Rattle.layout_sizes.proofs.size_limit.Reads as size-limit-reads
 
-differ-requires : tie.Need-differ-requires
-differ-requires c κs = search needs
-
 returns : tie.Need-returns
 unfolding lengthDue
 returns c = search decide-calls
@@ -19,12 +16,6 @@ returns c = search decide-calls
 returns-2 : tie.Need-returns-2
 unfolding lengthDue
 returns-2 c = search decide-calls
-
-size-limit-requires : tie.Need-size-limit-requires
-size-limit-requires c κs = search needs
-
-adpcm-bytes-requires : tie.Need-adpcm-bytes-requires
-adpcm-bytes-requires c κs = search needs
 
 returns-3 : tie.Need-returns-3
 unfolding lengthDue
@@ -38,10 +29,10 @@ pub length-due-spec : {M : Type 1} → statement M
 length-due-spec =
     tie.close
     (tie.spec
-    differ-requires
+    (λ c κs. search needs)
     returns
     returns-2
-    size-limit-requires
-    adpcm-bytes-requires
+    (λ c κs. search needs)
+    (λ c κs. search needs)
     returns-3
     returns-4)

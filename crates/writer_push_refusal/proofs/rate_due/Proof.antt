@@ -8,15 +8,9 @@ use Rattle.writer_push_refusal.proofs.rate_due.Lts as lts
 use Rattle.writer_push_refusal.proofs.changed.Reads as changed-reads
 use Rattle.writer_push_refusal.proofs.differ.Reads as differ-reads
 
-differ-requires : tie.Need-differ-requires
-differ-requires c κs = search needs
-
 returns : tie.Need-returns
 unfolding rateDue
 returns c = search decide
-
-changed-requires : tie.Need-changed-requires
-changed-requires c κs = search needs
 
 returns-2 : tie.Need-returns-2
 unfolding rateDue
@@ -32,4 +26,4 @@ returns-4 c = search decide
 
 pub rate-due-spec : {M : Type 1} → statement M
 rate-due-spec =
-    tie.close (tie.spec differ-requires returns changed-requires returns-2 returns-3 returns-4)
+    tie.close (tie.spec (λ c κs. search needs) returns (λ c κs. search needs) returns-2 returns-3 returns-4)

@@ -8,17 +8,8 @@ use Rattle.c_cues.proofs.bytes.put_cue.Lts as lts
 use Rattle.c_opened.proofs.fields.put_long.Reads as put-long-reads
 use Rattle.layout_put.proofs.put_u32.Reads as put-u32-reads
 
-put-long-requires : tie.Need-put-long-requires
-put-long-requires c κs = search needs
-
-add-put-u32 : tie.Need-add-put-u32
-add-put-u32 c = search needs
-
 put-u32-requires : tie.Need-put-u32-requires
 put-u32-requires c κs = tt
-
-add-put-u32-2 : tie.Need-add-put-u32-2
-add-put-u32-2 c = search needs
 
 put-u32-requires-2 : tie.Need-put-u32-requires-2
 put-u32-requires-2 c κs = tt
@@ -27,16 +18,17 @@ same-length : tie.Need-same-length
 same-length c = c .before .out3 .given ∙ c .before .before .before .before .before .out2 .given ∙ c .before .before .before .before .before .before .before .before .before .out .given
 
 returns : tie.Need-returns
-returns c = three-put _ _ _ _ _ (c .before .before .before .before .before .before .before .before .before .before .put-long .ensures) (c .before .before .before .before .before .before .put-u32 .ensures) (c .before .before .put-u322 .ensures)
+returns c = three-put _ _ _ _ _ (c .before .before .before .before .before .before .before .before .before .before .put-long .ensures)
+    (c .before .before .before .before .before .before .put-u32 .ensures) (c .before .before .put-u322 .ensures)
 
 pub put-cue-spec : {M : Type 1} → statement M
 put-cue-spec =
     tie.close
     (tie.spec
-    put-long-requires
-    add-put-u32
+    (λ c κs. search needs)
+    (λ c. search needs)
     put-u32-requires
-    add-put-u32-2
+    (λ c. search needs)
     put-u32-requires-2
     same-length
     returns)

@@ -15,14 +15,8 @@ enum-told c = c .match .keys2
 enum-known-reply-2 : tie.Need-enum-known-reply-2
 enum-known-reply-2 c = c .match .keys3
 
-put-cue-requires : tie.Need-put-cue-requires
-put-cue-requires c κs = search needs
-
 enum-known-reply-3 : tie.Need-enum-known-reply-3
 enum-known-reply-3 c = c .match .keys4
-
-put-cue-requires-2 : tie.Need-put-cue-requires-2
-put-cue-requires-2 c κs = search needs
 
 returns : tie.Need-returns
 returns c = search needs
@@ -49,9 +43,9 @@ put-reply-spec =
     enum-known-reply
     enum-told
     enum-known-reply-2
-    put-cue-requires
+    (λ c κs. search needs)
     enum-known-reply-3
-    put-cue-requires-2
+    (λ c κs. search needs)
     returns
     returns-2
     same-length

@@ -6,11 +6,8 @@ use Rattle.c_opened.proofs.opened.no_reader.Reads as reads
 use Rattle.c_opened.proofs.opened.no_reader.Lts as lts
 use Rattle.layout.proofs.no_channel.Reads as no-channel-reads
 
-no-channel-requires : tie.Need-no-channel-requires
-no-channel-requires c κs = search needs
-
 returns : tie.Need-returns
 returns c = rw (c .no-channel .ensures)
 
 pub no-reader-spec : {M : Type 1} → statement M
-no-reader-spec = tie.close (tie.spec no-channel-requires returns)
+no-reader-spec = tie.close (tie.spec (λ c κs. search needs) returns)

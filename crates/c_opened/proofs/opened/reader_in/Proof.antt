@@ -6,64 +6,19 @@ use borrow.Author.Needs.{needs}
 use Rattle.c_opened.proofs.opened.reader_in.Statement.{statement}
 use Rattle.c_opened.proofs.opened.reader_in.Tie as tie
 
-no-reader-requires : tie.Need-no-reader-requires
-no-reader-requires c κs = search needs
-
 returns : tie.Need-returns
 returns c = and-readable _ _ _ _ (c .no-reader .ensures ∙ search (too-few, needs))
-
-word-requires : tie.Need-word-requires
-word-requires c κs = search needs
-
-cast-count : tie.Need-cast-count
-cast-count c = search needs
-
-word-requires-2 : tie.Need-word-requires-2
-word-requires-2 c κs = search needs
-
-cast-blocks : tie.Need-cast-blocks
-cast-blocks c = search needs
-
-no-reader-requires-2 : tie.Need-no-reader-requires-2
-no-reader-requires-2 c κs = search needs
 
 returns-2 : tie.Need-returns-2
 returns-2 c = and-readable _ _ _ _ (c .no-reader2 .ensures ∙ search (many-channels, needs))
 
-no-reader-requires-3 : tie.Need-no-reader-requires-3
-no-reader-requires-3 c κs = search needs
-
 returns-3 : tie.Need-returns-3
 returns-3 c = and-readable _ _ _ _ (c .no-reader3 .ensures ∙ search (many-blocks, needs))
-
-read-channel-requires : tie.Need-read-channel-requires
-read-channel-requires c κs = search needs
-
-enum-told : tie.Need-enum-told
-enum-told c = search needs
-
-enum-told-2 : tie.Need-enum-told-2
-enum-told-2 c = search needs
-
-no-reader-requires-4 : tie.Need-no-reader-requires-4
-no-reader-requires-4 c κs = search needs
 
 returns-4 : tie.Need-returns-4
 returns-4 c =
     let e = beside-number _ (c .before .before .before .read-channel .ensures .0) (c .before .enum-told2 .given .1) refl in
     and-readable _ _ _ _ (c .no-reader4 .ensures ∙ search (no-left, needs))
-
-read-channel-requires-2 : tie.Need-read-channel-requires-2
-read-channel-requires-2 c κs = search needs
-
-enum-told-3 : tie.Need-enum-told-3
-enum-told-3 c = search needs
-
-enum-told-4 : tie.Need-enum-told-4
-enum-told-4 c = search needs
-
-no-reader-requires-5 : tie.Need-no-reader-requires-5
-no-reader-requires-5 c κs = search needs
 
 returns-5 : tie.Need-returns-5
 returns-5 c =
@@ -71,21 +26,6 @@ returns-5 c =
     let e = beside-number _ (r .read-channel2 .ensures .0) (c .before .enum-told4 .given .1) refl in
     let l = beside-read _ (r .before .before .before .read-channel .ensures .0) (r .before .enum-told .given .1) in
     and-readable _ _ _ _ (c .no-reader5 .ensures ∙ search (no-right, needs))
-
-least-requires : tie.Need-least-requires
-least-requires c κs = search needs
-
-offsets-in-requires : tie.Need-offsets-in-requires
-offsets-in-requires c κs = search needs
-
-word-requires-3 : tie.Need-word-requires-3
-word-requires-3 c κs = search needs
-
-loop-of-requires : tie.Need-loop-of-requires
-loop-of-requires c κs = search needs
-
-word-requires-4 : tie.Need-word-requires-4
-word-requires-4 c κs = search needs
 
 returns-6 : tie.Need-returns-6
 returns-6 c =
@@ -95,36 +35,37 @@ returns-6 c =
     let l = beside-read _ (y .before .before .before .read-channel .ensures .0) (y .before .enum-told .given .1) in
     let w = y .before .before .before in
     and-readable _ _ _ _
-    (part-made _ _ _ (w .before .before .before .before .before .if1 .left) (w .before .before .before .before .word .ensures) (w .before .before .if2 .left) (w .before .before .before .word2 .ensures) (w .before .if3 .left) l r (c .word4 .ensures) refl refl refl
+    (part-made _ _ _ (w .before .before .before .before .before .if1 .left) (w .before .before .before .before .word .ensures) (w .before .before .if2 .left)
+    (w .before .before .before .word2 .ensures) (w .before .if3 .left) l r (c .word4 .ensures) refl refl refl
     (c .before .before .before .before .least .ensures .0) (c .before .before .before .offsets-in .ensures) (c .before .before .word3 .ensures) (c .before .loop-of .ensures))
 
 pub reader-in-spec : {M : Type 1} → statement M
 reader-in-spec =
     tie.close
     (tie.spec
-    no-reader-requires
+    (λ c κs. search needs)
     returns
-    word-requires
-    cast-count
-    word-requires-2
-    cast-blocks
-    no-reader-requires-2
+    (λ c κs. search needs)
+    (λ c. search needs)
+    (λ c κs. search needs)
+    (λ c. search needs)
+    (λ c κs. search needs)
     returns-2
-    no-reader-requires-3
+    (λ c κs. search needs)
     returns-3
-    read-channel-requires
-    enum-told
-    enum-told-2
-    no-reader-requires-4
+    (λ c κs. search needs)
+    (λ c. search needs)
+    (λ c. search needs)
+    (λ c κs. search needs)
     returns-4
-    read-channel-requires-2
-    enum-told-3
-    enum-told-4
-    no-reader-requires-5
+    (λ c κs. search needs)
+    (λ c. search needs)
+    (λ c. search needs)
+    (λ c κs. search needs)
     returns-5
-    least-requires
-    offsets-in-requires
-    word-requires-3
-    loop-of-requires
-    word-requires-4
+    (λ c κs. search needs)
+    (λ c κs. search needs)
+    (λ c κs. search needs)
+    (λ c κs. search needs)
+    (λ c κs. search needs)
     returns-6)

@@ -6,15 +6,6 @@ use Rattle.c_opened.proofs.put.loop_number.Tie as tie
 use Rattle.c_opened.proofs.put.loop_number.Reads as reads
 use Rattle.c_opened.proofs.put.loop_number.Lts as lts
 
-enum-told : tie.Need-enum-told
-enum-told c = search needs
-
-enum-known-start : tie.Need-enum-known-start
-enum-known-start c = search needs
-
-cast-result : tie.Need-cast-result
-cast-result c = search needs
-
 returns : tie.Need-returns
 returns c = search needs
 
@@ -22,4 +13,4 @@ returns-2 : tie.Need-returns-2
 returns-2 c = search (loop-number, needs)
 
 pub loop-number-spec : {M : Type 1} → statement M
-loop-number-spec = tie.close (tie.spec enum-told enum-known-start cast-result returns returns-2)
+loop-number-spec = tie.close (tie.spec (λ c. search needs) (λ c. search needs) (λ c. search needs) returns returns-2)

@@ -10,57 +10,6 @@ use Rattle.c_record.proofs.side_in.Reads as side-in-reads
 use Rattle.c_record.proofs.loader.loop_of.Reads as loop-of-reads
 use Rattle.c_record.proofs.loader.mode_of.Reads as mode-of-reads
 
-word-requires : tie.Need-word-requires
-word-requires c κs = search needs
-
-mode-of-requires : tie.Need-mode-of-requires
-mode-of-requires c κs = search needs
-
-long-requires : tie.Need-long-requires
-long-requires c κs = search needs
-
-loop-of-requires : tie.Need-loop-of-requires
-loop-of-requires c κs = search needs
-
-side-in-requires : tie.Need-side-in-requires
-side-in-requires c κs = search needs
-
-side-in-requires-2 : tie.Need-side-in-requires-2
-side-in-requires-2 c κs = search needs
-
-long-requires-2 : tie.Need-long-requires-2
-long-requires-2 c κs = search needs
-
-long-requires-3 : tie.Need-long-requires-3
-long-requires-3 c κs = search needs
-
-long-requires-4 : tie.Need-long-requires-4
-long-requires-4 c κs = search needs
-
-long-requires-5 : tie.Need-long-requires-5
-long-requires-5 c κs = search needs
-
-word-requires-2 : tie.Need-word-requires-2
-word-requires-2 c κs = search needs
-
-long-requires-6 : tie.Need-long-requires-6
-long-requires-6 c κs = search needs
-
-long-requires-7 : tie.Need-long-requires-7
-long-requires-7 c κs = search needs
-
-long-requires-8 : tie.Need-long-requires-8
-long-requires-8 c κs = search needs
-
-long-requires-9 : tie.Need-long-requires-9
-long-requires-9 c κs = search needs
-
-word-requires-3 : tie.Need-word-requires-3
-word-requires-3 c κs = search needs
-
-word-requires-4 : tie.Need-word-requires-4
-word-requires-4 c κs = search needs
-
 returns : tie.Need-returns
 unfolding fieldsIn
 returns c =
@@ -88,21 +37,21 @@ pub fields-in-spec : {M : Type 1} → statement M
 fields-in-spec =
     tie.close
     (tie.spec
-    word-requires
-    mode-of-requires
-    long-requires
-    loop-of-requires
-    side-in-requires
-    side-in-requires-2
-    long-requires-2
-    long-requires-3
-    long-requires-4
-    long-requires-5
-    word-requires-2
-    long-requires-6
-    long-requires-7
-    long-requires-8
-    long-requires-9
-    word-requires-3
-    word-requires-4
+    (λ c κs. search needs)
+    (λ c κs. search needs)
+    (λ c κs. search needs)
+    (λ c κs. search needs)
+    (λ c κs. search needs)
+    (λ c κs. search needs)
+    (λ c κs. search needs)
+    (λ c κs. search needs)
+    (λ c κs. search needs)
+    (λ c κs. search needs)
+    (λ c κs. search needs)
+    (λ c κs. search needs)
+    (λ c κs. search needs)
+    (λ c κs. search needs)
+    (λ c κs. search needs)
+    (λ c κs. search needs)
+    (λ c κs. search needs)
     returns)

@@ -12,27 +12,6 @@ use Rattle.c_record.proofs.loader.held_kept.Lts as lts
 use Rattle.c_record.proofs.cues_in.Reads as cues-in-reads
 use Rattle.writer_assign_cues.proofs.any_loop.Reads as any-loop-reads
 
-enum-told : tie.Need-enum-told
-enum-told c = search needs
-
-enum-told-2 : tie.Need-enum-told-2
-enum-told-2 c = search needs
-
-enum-told-3 : tie.Need-enum-told-3
-enum-told-3 c = search needs
-
-enum-told-4 : tie.Need-enum-told-4
-enum-told-4 c = search needs
-
-enum-told-5 : tie.Need-enum-told-5
-enum-told-5 c = search needs
-
-cues-in-requires : tie.Need-cues-in-requires
-cues-in-requires c κs = search needs
-
-any-loop-requires : tie.Need-any-loop-requires
-any-loop-requires c κs = search needs
-
 returns : tie.Need-returns
 returns c = search (held-at, needs)
 
@@ -52,13 +31,13 @@ pub held-kept-spec : {M : Type 1} → statement M
 held-kept-spec =
     tie.close
     (tie.spec
-    enum-told
-    enum-told-2
-    enum-told-3
-    enum-told-4
-    enum-told-5
-    cues-in-requires
-    any-loop-requires
+    (λ c. search needs)
+    (λ c. search needs)
+    (λ c. search needs)
+    (λ c. search needs)
+    (λ c. search needs)
+    (λ c κs. search needs)
+    (λ c κs. search needs)
     returns
     returns-2
     returns-3

@@ -9,26 +9,14 @@ use Rattle.c_record.proofs.loader.marks_good.Reads as marks-good-reads
 use Rattle.c_record.proofs.loader.places_good.Reads as places-good-reads
 use Rattle.c_record.proofs.loader.sums_good.Reads as sums-good-reads
 
-places-good-requires : tie.Need-places-good-requires
-places-good-requires c κs = search needs
-
 returns : tie.Need-returns
 returns c = search (bad-places, needs)
-
-sums-good-requires : tie.Need-sums-good-requires
-sums-good-requires c κs = search needs
 
 returns-2 : tie.Need-returns-2
 returns-2 c = search (bad-sums, needs)
 
-marks-good-requires : tie.Need-marks-good-requires
-marks-good-requires c κs = search needs
-
 returns-3 : tie.Need-returns-3
 returns-3 c = search (bad-marks, needs)
-
-loops-within-requires : tie.Need-loops-within-requires
-loops-within-requires c κs = search needs
 
 returns-4 : tie.Need-returns-4
 returns-4 c = search (sensible-rest, needs)
@@ -37,11 +25,11 @@ pub is-sensible-spec : {M : Type 1} → statement M
 is-sensible-spec =
     tie.close
     (tie.spec
-    places-good-requires
+    (λ c κs. search needs)
     returns
-    sums-good-requires
+    (λ c κs. search needs)
     returns-2
-    marks-good-requires
+    (λ c κs. search needs)
     returns-3
-    loops-within-requires
+    (λ c κs. search needs)
     returns-4)

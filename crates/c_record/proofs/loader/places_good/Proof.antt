@@ -17,11 +17,8 @@ returns-3 c = search (count-large, needs)
 returns-4 : tie.Need-returns-4
 returns-4 c = search (next-past, needs)
 
-add-result : tie.Need-add-result
-add-result c = search needs
-
 returns-5 : tie.Need-returns-5
 returns-5 c = search (places-rest, needs)
 
 pub places-good-spec : {M : Type 1} → statement M
-places-good-spec = tie.close (tie.spec returns returns-2 returns-3 returns-4 add-result returns-5)
+places-good-spec = tie.close (tie.spec returns returns-2 returns-3 returns-4 (λ c. search needs) returns-5)

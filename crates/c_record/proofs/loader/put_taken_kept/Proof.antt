@@ -11,18 +11,9 @@ use Rattle.writer_assign_cues.proofs.put_taken.Reads as put-taken-reads
 returns : tie.Need-returns
 returns c = let s = c .before .before .before in no-points _ _ _ _ _ _ (s .pre .1 .0 .counted) (c .if1 .taken)
 
-cues-in-requires : tie.Need-cues-in-requires
-cues-in-requires c κs = search needs
-
-put-taken-requires : tie.Need-put-taken-requires
-put-taken-requires c κs = search needs
-
-same-length : tie.Need-same-length
-same-length c = search needs
-
 returns-2 : tie.Need-returns-2
 returns-2 c = c .before .before .put-taken .ensures ∙ rw (c .before .before .before .before .cues-in .ensures)
 
 pub put-taken-kept-spec : {M : Type 1} → statement M
 put-taken-kept-spec =
-    tie.close (tie.spec returns cues-in-requires put-taken-requires same-length returns-2)
+    tie.close (tie.spec returns (λ c κs. search needs) (λ c κs. search needs) (λ c. search needs) returns-2)

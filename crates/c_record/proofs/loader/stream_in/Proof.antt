@@ -8,20 +8,8 @@ use Rattle.c_record.proofs.loader.fields_in.Reads as fields-in-reads
 use Rattle.c_record.proofs.loader.is_sensible.Reads as is-sensible-reads
 use Rattle.c_record.proofs.loader.no_stream.Reads as no-stream-reads
 
-no-stream-requires : tie.Need-no-stream-requires
-no-stream-requires c κs = search needs
-
 returns : tie.Need-returns
 returns c = search (too-short, needs)
-
-fields-in-requires : tie.Need-fields-in-requires
-fields-in-requires c κs = search needs
-
-is-sensible-requires : tie.Need-is-sensible-requires
-is-sensible-requires c κs = search needs
-
-no-stream-requires-2 : tie.Need-no-stream-requires-2
-no-stream-requires-2 c κs = search needs
 
 returns-2 : tie.Need-returns-2
 returns-2 c = search (holds-record, needs)
@@ -33,10 +21,10 @@ pub stream-in-spec : {M : Type 1} → statement M
 stream-in-spec =
     tie.close
     (tie.spec
-    no-stream-requires
+    (λ c κs. search needs)
     returns
-    fields-in-requires
-    is-sensible-requires
-    no-stream-requires-2
+    (λ c κs. search needs)
+    (λ c κs. search needs)
+    (λ c κs. search needs)
     returns-2
     returns-3)

@@ -8,20 +8,14 @@ use Rattle.c_record.proofs.loader.sums_good.Lts as lts
 returns : tie.Need-returns
 returns c = search (blocks-many, needs)
 
-mul-most : tie.Need-mul-most
-mul-most c = search needs
-
 returns-2 : tie.Need-returns-2
 returns-2 c = search (base-large, needs)
 
 returns-3 : tie.Need-returns-3
 returns-3 c = search (sum-large, needs)
 
-mul-result : tie.Need-mul-result
-mul-result c = search needs
-
 returns-4 : tie.Need-returns-4
 returns-4 c = search (sums-rest, needs)
 
 pub sums-good-spec : {M : Type 1} → statement M
-sums-good-spec = tie.close (tie.spec returns mul-most returns-2 returns-3 mul-result returns-4)
+sums-good-spec = tie.close (tie.spec returns (λ c. search needs) returns-2 returns-3 (λ c. search needs) returns-4)

@@ -11,14 +11,8 @@ use Rattle.writer_assign_cues.proofs.take.Reads as take-reads
 returns : tie.Need-returns
 returns c = none-taken _ _ _ _ _ (c .before .before .pre .0) (c .if1 .taken)
 
-cues-in-requires : tie.Need-cues-in-requires
-cues-in-requires c κs = search needs
-
-take-requires : tie.Need-take-requires
-take-requires c κs = search needs
-
 returns-2 : tie.Need-returns-2
 returns-2 c = c .take .ensures ∙ rw (c .before .cues-in .ensures)
 
 pub take-kept-spec : {M : Type 1} → statement M
-take-kept-spec = tie.close (tie.spec returns cues-in-requires take-requires returns-2)
+take-kept-spec = tie.close (tie.spec returns (λ c κs. search needs) (λ c κs. search needs) returns-2)

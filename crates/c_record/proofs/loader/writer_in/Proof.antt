@@ -11,15 +11,6 @@ use Rattle.c_record.proofs.loader.setup_of.Reads as setup-of-reads
 use Rattle.c_record.proofs.loader.stream_in.Reads as stream-in-reads
 use Rattle.c_record.proofs.loader.stream_of.Reads as stream-of-reads
 
-stream-in-requires : tie.Need-stream-in-requires
-stream-in-requires c κs = search needs
-
-setup-of-requires : tie.Need-setup-of-requires
-setup-of-requires c κs = search needs
-
-stream-of-requires : tie.Need-stream-of-requires
-stream-of-requires c κs = search needs
-
 cues-in-requires : tie.Need-cues-in-requires
 cues-in-requires c κs = (lit< tt, rw (c .before .before .stream-in .ensures) (stream-few _))
 
@@ -28,4 +19,4 @@ returns c =
     rw (c .cues-in .ensures, c .before .stream-of .ensures, c .before .before .setup-of .ensures, c .before .before .before .stream-in .ensures)
 
 pub writer-in-spec : {M : Type 1} → statement M
-writer-in-spec = tie.close (tie.spec stream-in-requires setup-of-requires stream-of-requires cues-in-requires returns)
+writer-in-spec = tie.close (tie.spec (λ c κs. search needs) (λ c κs. search needs) (λ c κs. search needs) cues-in-requires returns)

@@ -6,33 +6,21 @@ use Rattle.c_record_put.proofs.numbers.put_sums.Reads as reads
 use Rattle.c_record_put.proofs.numbers.put_sums.Lts as lts
 use Rattle.c_opened.proofs.fields.put_long.Reads as put-long-reads
 
-put-long-requires : tie.Need-put-long-requires
-put-long-requires c κs = search needs
-
-put-long-requires-2 : tie.Need-put-long-requires-2
-put-long-requires-2 c κs = search needs
-
-put-long-requires-3 : tie.Need-put-long-requires-3
-put-long-requires-3 c κs = search needs
-
-put-long-requires-4 : tie.Need-put-long-requires-4
-put-long-requires-4 c κs = search needs
-
-same-length : tie.Need-same-length
-same-length c = search needs
-
 returns : tie.Need-returns
 returns c =
     let z = c .before .before .before .before .before .before .before .before .before .before .before .before .before .before .before .before .before in
-    sums-put _ _ _ _ (z .args .base) (z .args .offset) (z .args .blocks) (z .args .sum) (z .pre) (c .before .before .before .before .before .before .before .before .before .before .before .before .before .before .put-long .ensures) (c .before .before .before .before .before .before .before .before .before .before .put-long2 .ensures) (c .before .before .before .before .before .before .put-long3 .ensures) (c .before .before .put-long4 .ensures)
+    sums-put _ _ _ _ (z .args .base) (z .args .offset) (z .args .blocks) (z .args .sum) (z .pre)
+    (c .before .before .before .before .before .before .before .before .before .before .before .before .before .before .put-long .ensures)
+    (c .before .before .before .before .before .before .before .before .before .before .put-long2 .ensures) (c .before .before .before .before .before .before .put-long3 .ensures)
+    (c .before .before .put-long4 .ensures)
 
 pub put-sums-spec : {M : Type 1} → statement M
 put-sums-spec =
     tie.close
     (tie.spec
-    put-long-requires
-    put-long-requires-2
-    put-long-requires-3
-    put-long-requires-4
-    same-length
+    (λ c κs. search needs)
+    (λ c κs. search needs)
+    (λ c κs. search needs)
+    (λ c κs. search needs)
+    (λ c. search needs)
     returns)

@@ -17,32 +17,8 @@ abbrev μ-loop : tie.MeasureT-loop
 loop-holds : tie.Need-loop-holds Inv-loop μ-loop
 loop-holds c = search (entries-none, needs)
 
-mul-cue : tie.Need-mul-cue Inv-loop μ-loop
-mul-cue c = search needs
-
-array-copy-out-cue : tie.Need-array-copy-out-cue Inv-loop μ-loop
-array-copy-out-cue c = search needs
-
-mul-put-cue : tie.Need-mul-put-cue Inv-loop μ-loop
-mul-put-cue c = search needs
-
-add-put-cue : tie.Need-add-put-cue Inv-loop μ-loop
-add-put-cue c = search needs
-
-put-cue-requires : tie.Need-put-cue-requires Inv-loop μ-loop
-put-cue-requires c κs = search needs
-
-add-i : tie.Need-add-i Inv-loop μ-loop
-add-i c = search needs
-
-loop-less : tie.Need-loop-less Inv-loop μ-loop
-loop-less c = search needs
-
 loop-again : tie.Need-loop-again Inv-loop μ-loop
 loop-again c = search (entries-more, needs)
-
-same-length : tie.Need-same-length Inv-loop μ-loop
-same-length c = search needs
 
 returns : tie.Need-returns Inv-loop μ-loop
 returns c = entries-all _ _ _ _ _ _ (c .before .loop .inv) (omega arith)
@@ -54,13 +30,13 @@ put-cues-spec =
     Inv-loop
     μ-loop
     loop-holds
-    mul-cue
-    array-copy-out-cue
-    mul-put-cue
-    add-put-cue
-    put-cue-requires
-    add-i
-    loop-less
+    (λ c. search needs)
+    (λ c. search needs)
+    (λ c. search needs)
+    (λ c. search needs)
+    (λ c κs. search needs)
+    (λ c. search needs)
+    (λ c. search needs)
     loop-again
-    same-length
+    (λ c. search needs)
     returns)

@@ -9,15 +9,6 @@ use Rattle.c_record_put.proofs.table.put_table.Lts as lts
 use Rattle.c_record_put.proofs.table.put_cues.Reads as put-cues-reads
 use Rattle.c_opened.proofs.fields.put_long.Reads as put-long-reads
 
-put-long-requires : tie.Need-put-long-requires
-put-long-requires c κs = search needs
-
-put-cues-requires : tie.Need-put-cues-requires
-put-cues-requires c κs = search needs
-
-same-length : tie.Need-same-length
-same-length c = search needs
-
 returns : tie.Need-returns
 returns c =
     let e = c .before .before in
@@ -26,4 +17,4 @@ returns c =
     (put, rw put (table-back (s .args .kept .now) (s .args .cues) (s .args .n) (search needs) (s .pre .0) (s .pre .1) (e .put-cues .ensures .1)))
 
 pub put-table-spec : {M : Type 1} → statement M
-put-table-spec = tie.close (tie.spec put-long-requires put-cues-requires same-length returns)
+put-table-spec = tie.close (tie.spec (λ c κs. search needs) (λ c κs. search needs) (λ c. search needs) returns)

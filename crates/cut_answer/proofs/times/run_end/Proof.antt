@@ -18,35 +18,25 @@ abbrev μ-loop : tie.MeasureT-loop
 loop-holds : tie.Need-loop-holds Inv-loop μ-loop
 loop-holds c = going-none (search needs)
 
-next-moment-requires : tie.Need-next-moment-requires Inv-loop μ-loop
-next-moment-requires c κs = search needs
-
-add-m : tie.Need-add-m Inv-loop μ-loop
-add-m c = search needs
-
-same-listing-requires : tie.Need-same-listing-requires Inv-loop μ-loop
-same-listing-requires c κs = search needs
-
 same-length : tie.Need-same-length Inv-loop μ-loop
 same-length c = let h = c .before .before .before .before .before .before .before .before .loop .inv .long in search needs
 
 returns : tie.Need-returns Inv-loop μ-loop
-returns c = to-log (c .before .before .before .before .before .before .before .before .before .before .before .before .before .args .j) (now (c .before .before .before .before .before .before .before .before .before .before .before .before .before .args .logged)) (run-other (c .before .before .before .before .before .before .before .before .loop .inv) (c .before .before .before .before .before .before .before .loop-test .taken) (search needs) (c .before .before .before .before .before .next-moment .ensures) (not-true _ (c .if1 .taken)) (c .before .same-listing .ensures .1))
-
-loop-less : tie.Need-loop-less Inv-loop μ-loop
-loop-less c = search needs
+returns c = to-log (c .before .before .before .before .before .before .before .before .before .before .before .before .before .args .j)
+    (now (c .before .before .before .before .before .before .before .before .before .before .before .before .before .args .logged))
+    (run-other (c .before .before .before .before .before .before .before .before .loop .inv) (c .before .before .before .before .before .before .before .loop-test .taken) (search needs)
+    (c .before .before .before .before .before .next-moment .ensures) (not-true _ (c .if1 .taken)) (c .before .same-listing .ensures .1))
 
 loop-again : tie.Need-loop-again Inv-loop μ-loop
-loop-again c = going-more (c .before .before .before .before .before .before .before .before .loop .inv) (c .before .before .before .before .before .before .before .loop-test .taken) (search needs) (c .before .before .before .before .before .next-moment .ensures) (not-false _ (c .if1 .left)) (c .before .same-listing .ensures .0)
-
-add-result : tie.Need-add-result Inv-loop μ-loop
-add-result c = search needs
+loop-again c = going-more (c .before .before .before .before .before .before .before .before .loop .inv) (c .before .before .before .before .before .before .before .loop-test .taken)
+    (search needs) (c .before .before .before .before .before .next-moment .ensures) (not-false _ (c .if1 .left)) (c .before .same-listing .ensures .0)
 
 same-length-2 : tie.Need-same-length-2 Inv-loop μ-loop
 same-length-2 c = c .before .loop .inv .long
 
 returns-2 : tie.Need-returns-2 Inv-loop μ-loop
-returns-2 c = to-log (c .before .before .before .before .before .before .args .j) (now (c .before .before .before .before .before .before .args .logged)) (run-all (c .before .loop .inv) (search needs) refl)
+returns-2 c = to-log (c .before .before .before .before .before .before .args .j) (now (c .before .before .before .before .before .before .args .logged))
+    (run-all (c .before .loop .inv) (search needs) refl)
 
 pub run-end-spec : {M : Type 1} → statement M
 run-end-spec =
@@ -55,13 +45,13 @@ run-end-spec =
     Inv-loop
     μ-loop
     loop-holds
-    next-moment-requires
-    add-m
-    same-listing-requires
+    (λ c κs. search needs)
+    (λ c. search needs)
+    (λ c κs. search needs)
     same-length
     returns
-    loop-less
+    (λ c. search needs)
     loop-again
-    add-result
+    (λ c. search needs)
     same-length-2
     returns-2)

@@ -21,8 +21,13 @@ loop-holds : tie.Need-loop-holds Inv-loop μ-loop
 loop-holds c = showing-none (c .before .before .before .before .before .pre .1 .0) (c .before .before .before .before .before .pre .1 .1)
 
 run : (c : tie.After-run-end Inv-loop μ-loop)
-    → RunEnds (now (c .before .before .before .before .before .before .before .before .before .before .args .earlier)) (loggedWrites (c .before .before .before .before .before .before .before .before .before .before .args .j) (now (c .before .before .before .before .before .before .before .before .before .before .args .logged))) (c .before .before .before .before .loop .from) (c .before .before .before .before .before .before .before .before .before .before .args .j .total) (listing (c .before .before .before .before .loop .first)) (c .run-end .result) (c .run-end .last .0)
-run c = c .run-end .ensures _ (c .before .before .before .before .loop .inv .here (c .before .before .before .loop-test .taken)) (c .before .before .before .before .loop .inv .same (c .before .before .before .loop-test .taken))
+    → RunEnds (now (c .before .before .before .before .before .before .before .before .before .before .args .earlier))
+    (loggedWrites (c .before .before .before .before .before .before .before .before .before .before .args .j)
+    (now (c .before .before .before .before .before .before .before .before .before .before .args .logged))) (c .before .before .before .before .loop .from)
+    (c .before .before .before .before .before .before .before .before .before .before .args .j .total) (listing (c .before .before .before .before .loop .first)) (c .run-end .result)
+    (c .run-end .last .0)
+run c = c .run-end .ensures _ (c .before .before .before .before .loop .inv .here (c .before .before .before .loop-test .taken))
+    (c .before .before .before .before .loop .inv .same (c .before .before .before .loop-test .taken))
 
 run-end-requires : tie.Need-run-end-requires Inv-loop μ-loop
 run-end-requires c κs = (c .before .before .before .before .before .before .before .before .before .pre .0 .0, c .before .before .loop-test .taken)
@@ -33,14 +38,14 @@ sub-print-run c = omega (arith, run (c .before .before) .later)
 print-run-requires : tie.Need-print-run-requires Inv-loop μ-loop
 print-run-requires c κs = is-run _ (c .before .before .before .before .before .before .before .before .before .before .before .before .before .pre .0 .1) (run (c .before .before .before))
 
-put-bytes-requires : tie.Need-put-bytes-requires Inv-loop μ-loop
-put-bytes-requires c κs = search needs
-
 loop-less : tie.Need-loop-less Inv-loop μ-loop
-loop-less c = let r = run (c .before .before .before .before .before .before .before .before .before) in let g = c .before .before .before .before .before .before .before .before .before .before .before .before .before .loop .inv in omega (arith, r .later, g .below, c .before .before .before .before .before .before .before .before .before .before .before .before .loop-test .taken)
+loop-less c = let r = run (c .before .before .before .before .before .before .before .before .before) in
+    let g = c .before .before .before .before .before .before .before .before .before .before .before .before .before .loop .inv in
+    omega (arith, r .later, g .below, c .before .before .before .before .before .before .before .before .before .before .before .before .loop-test .taken)
 
 loop-again : tie.Need-loop-again Inv-loop μ-loop
-loop-again c = showing-more (c .before .before .before .before .before .before .before .before .before .before .before .before .before .loop .inv) (search needs) (run (c .before .before .before .before .before .before .before .before .before)) (c .before .before .put-bytes .ensures)
+loop-again c = showing-more (c .before .before .before .before .before .before .before .before .before .before .before .before .before .loop .inv) (search needs)
+    (run (c .before .before .before .before .before .before .before .before .before)) (c .before .before .put-bytes .ensures)
 
 same-length : tie.Need-same-length Inv-loop μ-loop
 same-length c = c .before .loop .inv .long ∙ sym (ap length (c .before .before .before .before .before .before .before .pre .1 .0))
@@ -61,7 +66,7 @@ show-runs-spec =
     run-end-requires
     sub-print-run
     print-run-requires
-    put-bytes-requires
+    (λ c κs. search needs)
     loop-less
     loop-again
     same-length

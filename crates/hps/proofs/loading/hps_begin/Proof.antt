@@ -11,15 +11,6 @@ use Rattle.hps.proofs.loading.hps_begin.Lts as lts
 use Rattle.c_loading.proofs.begin_kept.Reads as begin-kept-reads
 use Rattle.c_record.specs.KeptSides.{loaderSize}
 
-begin-kept-requires : tie.Need-begin-kept-requires
-begin-kept-requires c κs = search needs
-
-same-length : tie.Need-same-length
-same-length c = search needs
-
-same-length-2 : tie.Need-same-length-2
-same-length-2 c = search needs
-
 returns : tie.Need-returns
 returns c =
     let u = c .before .before .before .before .before .before in
@@ -28,12 +19,6 @@ returns c =
     let z = c .if1 .taken in
     let q = past _ z (ltb 2 (a .mode)) 252 (past _ z (ltb (length (a .kept .now)) loaderSize) 251 (e .0)) in
     (ap (λ (x : KeptCall). x .number) (e .0), given _ _ _ z (ap (λ (x : KeptCall). x .offset) q), given _ _ _ z (ap (λ (x : KeptCall). x .length) q), e .1 .0, e .1 .1 .0, e .1 .1 .1)
-
-same-length-3 : tie.Need-same-length-3
-same-length-3 c = search needs
-
-same-length-4 : tie.Need-same-length-4
-same-length-4 c = search needs
 
 returns-2 : tie.Need-returns-2
 returns-2 c =
@@ -44,10 +29,10 @@ pub hps-begin-spec : {M : Type 1} → statement M
 hps-begin-spec =
     tie.close
     (tie.spec
-    begin-kept-requires
-    same-length
-    same-length-2
+    (λ c κs. search needs)
+    (λ c. search needs)
+    (λ c. search needs)
     returns
-    same-length-3
-    same-length-4
+    (λ c. search needs)
+    (λ c. search needs)
     returns-2)

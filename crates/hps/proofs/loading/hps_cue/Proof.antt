@@ -16,15 +16,6 @@ use Rattle.c_record.proofs.kind_of.Reads as kind-of-reads
 returns : tie.Need-returns
 returns c = rw (lt-ltb 2 (c .before .before .args .kind) (c .if1 .taken)) (refl, refl, refl)
 
-kind-of-requires : tie.Need-kind-of-requires
-kind-of-requires c κs = search needs
-
-cue-kept-requires : tie.Need-cue-kept-requires
-cue-kept-requires c κs = search needs
-
-same-length : tie.Need-same-length
-same-length c = search needs
-
 returns-2 : tie.Need-returns-2
 returns-2 c =
     let u = c .before .before in
@@ -43,4 +34,4 @@ returns-2 c =
 
 pub hps-cue-spec : {M : Type 1} → statement M
 hps-cue-spec =
-    tie.close (tie.spec returns kind-of-requires cue-kept-requires same-length returns-2)
+    tie.close (tie.spec returns (λ c κs. search needs) (λ c κs. search needs) (λ c. search needs) returns-2)

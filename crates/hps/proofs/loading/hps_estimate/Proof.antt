@@ -6,15 +6,6 @@ use Rattle.hps.proofs.loading.hps_estimate.Reads as reads
 use Rattle.hps.proofs.loading.hps_estimate.Lts as lts
 use Rattle.writer_estimate.proofs.estimate.Reads as estimate-reads
 
-estimate-requires : tie.Need-estimate-requires
-estimate-requires c κs = search needs
-
-enum-known-number : tie.Need-enum-known-number
-enum-known-number c = search needs
-
-enum-known-n : tie.Need-enum-known-n
-enum-known-n c = search needs
-
 returns : tie.Need-returns
 returns c = search (estimate-refused, estimate-left, needs)
 
@@ -23,4 +14,4 @@ returns-2 c = search (estimate-accepted, estimate-given, needs)
 
 pub hps-estimate-spec : {M : Type 1} → statement M
 hps-estimate-spec =
-    tie.close (tie.spec estimate-requires enum-known-number enum-known-n returns returns-2)
+    tie.close (tie.spec (λ c κs. search needs) (λ c. search needs) (λ c. search needs) returns returns-2)

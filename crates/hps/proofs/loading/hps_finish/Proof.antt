@@ -10,27 +10,12 @@ use Rattle.hps.proofs.loading.hps_finish.Reads as reads
 use Rattle.hps.proofs.loading.hps_finish.Lts as lts
 use Rattle.c_loading.proofs.finish_kept.Reads as finish-kept-reads
 
-finish-kept-requires : tie.Need-finish-kept-requires
-finish-kept-requires c κs = search needs
-
-same-length : tie.Need-same-length
-same-length c = search needs
-
-same-length-2 : tie.Need-same-length-2
-same-length-2 c = search needs
-
 returns : tie.Need-returns
 returns c =
     let u = c .before .before .before .before .before .before in
     let e = u .finish-kept .ensures in
     let q = past _ (c .if1 .taken) (eqb (streamIn (u .before .before .before .before .before .args .kept .now) .slot) 0) 253 (e .0) in
     (ap (λ (x : KeptCall). x .number) (e .0), given _ _ _ (c .if1 .taken) (ap (λ (x : KeptCall). x .length) q), e .1 .0, e .1 .1 .0, e .1 .1 .1)
-
-same-length-3 : tie.Need-same-length-3
-same-length-3 c = search needs
-
-same-length-4 : tie.Need-same-length-4
-same-length-4 c = search needs
 
 returns-2 : tie.Need-returns-2
 returns-2 c =
@@ -41,10 +26,10 @@ pub hps-finish-spec : {M : Type 1} → statement M
 hps-finish-spec =
     tie.close
     (tie.spec
-    finish-kept-requires
-    same-length
-    same-length-2
+    (λ c κs. search needs)
+    (λ c. search needs)
+    (λ c. search needs)
     returns
-    same-length-3
-    same-length-4
+    (λ c. search needs)
+    (λ c. search needs)
     returns-2)

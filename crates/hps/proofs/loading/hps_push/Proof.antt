@@ -29,11 +29,13 @@ asked s = pushOn (s .args .kept .now) (s .args .channels) (s .args .left .now) (
 
 -- its sides read from their bytes
 same : (u : tie.After-push-kept) → let a = start u .args in
-    pushOf (writerIn (a .kept .now)) (pushArgs (a .channels) (u .before .before .before .before .side-in .result) (u .before .before .before .side-in2 .result) (a .left-data .now) (a .right-data .now) (a .last)) (a .lent .now)
+    pushOf (writerIn (a .kept .now)) (pushArgs (a .channels) (u .before .before .before .before .side-in .result) (u .before .before .before .side-in2 .result) (a .left-data .now)
+    (a .right-data .now) (a .last)) (a .lent .now)
     ≡ asked (start u)
 same u =
     let a = start u .args in
-    λ i. pushOf (writerIn (a .kept .now)) (pushArgs (a .channels) (u .before .before .before .before .side-in .ensures .0 i) (u .before .before .before .side-in2 .ensures .0 i) (a .left-data .now) (a .right-data .now) (a .last)) (a .lent .now)
+    λ i. pushOf (writerIn (a .kept .now)) (pushArgs (a .channels) (u .before .before .before .before .side-in .ensures .0 i) (u .before .before .before .side-in2 .ensures .0 i)
+    (a .left-data .now) (a .right-data .now) (a .last)) (a .lent .now)
 
 call : (u : tie.After-push-kept) → u .push-kept .result ≡ onKept (start u .args .kept .now) (asked (start u))
 call u = u .push-kept .ensures .0 ∙ ap (onKept (start u .args .kept .now)) (same u)
@@ -41,7 +43,8 @@ call u = u .push-kept .ensures .0 ∙ ap (onKept (start u .args .kept .now)) (sa
 numbered : (u : tie.After-push-kept) → let a = start u .args in
     u .push-kept .result .number ≡ pushNumber (a .kept .now) (sidesShort (a .channels) (a .left .now) (a .right .now)) (asked (start u))
 numbered u =
-    ap (λ (x : KeptCall). x .number) (call u) ∙ long-sides (start u .args .kept .now) (asked (start u)) _ (sym (u .before .before .before .before .before .before .sides-short .ensures) ∙ u .before .before .before .before .before .if1 .left)
+    ap (λ (x : KeptCall). x .number) (call u) ∙ long-sides (start u .args .kept .now) (asked (start u)) _
+    (sym (u .before .before .before .before .before .before .sides-short .ensures) ∙ u .before .before .before .before .before .if1 .left)
 
 lent-after : (u : tie.After-push-kept) → u .push-kept .last .1 .1 .1 .1 .1 .1 .1 .0 ≡ givenAfter (u .push-kept .result .number) (start u .args .lent .now) (asked (start u) .lent)
 lent-after u = u .push-kept .ensures .1 ∙ ap (λ (x : Outcome). givenAfter (u .push-kept .result .number) (start u .args .lent .now) (x .lent)) (same u)
@@ -55,35 +58,11 @@ writer-after u = u .push-kept .ensures .3 ∙ ap (λ (x : Outcome). givenAfter (
 
 -- ---- The needs
 
-sides-short-requires : tie.Need-sides-short-requires
-sides-short-requires c κs = search needs
-
-without-side-requires : tie.Need-without-side-requires
-without-side-requires c κs = search needs
-
-same-length : tie.Need-same-length
-same-length c = search needs
-
 returns : tie.Need-returns
 returns c =
     let s = c .before .before .before .before .before .before .before .before .before .before in
     let d = short-side (s .args .kept .now) (asked s) _ (sym (c .before .before .before .sides-short .ensures) ∙ c .before .before .if1 .taken) (c .without-side .ensures) in
     (d .0, left _ _ _ (d .1), left _ _ _ (d .1), left _ _ _ (d .1), left _ _ _ (d .1), left _ _ _ (d .1))
-
-side-in-requires : tie.Need-side-in-requires
-side-in-requires c κs = search needs
-
-side-in-requires-2 : tie.Need-side-in-requires-2
-side-in-requires-2 c κs = search needs
-
-push-kept-requires : tie.Need-push-kept-requires
-push-kept-requires c κs = search needs
-
-same-length-2 : tie.Need-same-length-2
-same-length-2 c = search needs
-
-same-length-3 : tie.Need-same-length-3
-same-length-3 c = search needs
 
 returns-2 : tie.Need-returns-2
 returns-2 c =
@@ -91,12 +70,6 @@ returns-2 c =
     let z = c .if2 .taken in
     let p = past _ z (eqb (streamIn (start u .args .kept .now) .slot) 0) 253 (call u) in
     (numbered u, given _ _ _ z (ap (λ (x : KeptCall). x .offset) p), given _ _ _ z (ap (λ (x : KeptCall). x .length) p), lent-after u, kept-after u, writer-after u)
-
-same-length-4 : tie.Need-same-length-4
-same-length-4 c = search needs
-
-same-length-5 : tie.Need-same-length-5
-same-length-5 c = search needs
 
 returns-3 : tie.Need-returns-3
 returns-3 c =
@@ -107,16 +80,16 @@ pub hps-push-spec : {M : Type 1} → statement M
 hps-push-spec =
     tie.close
     (tie.spec
-    sides-short-requires
-    without-side-requires
-    same-length
+    (λ c κs. search needs)
+    (λ c κs. search needs)
+    (λ c. search needs)
     returns
-    side-in-requires
-    side-in-requires-2
-    push-kept-requires
-    same-length-2
-    same-length-3
+    (λ c κs. search needs)
+    (λ c κs. search needs)
+    (λ c κs. search needs)
+    (λ c. search needs)
+    (λ c. search needs)
     returns-2
-    same-length-4
-    same-length-5
+    (λ c. search needs)
+    (λ c. search needs)
     returns-3)

@@ -46,7 +46,8 @@ returns-2 c =
     let e = c .before .before .before .before .before .before .reader-in .ensures .0 in
     let i = now (a .position) in
     let x = blockRead (now (a .slot)) (readerIn (now (a .kept))) (a .channel) i in
-    let w = whole-block (now (a .slot)) (now (a .kept)) (a .channel) i _ _ (c .before .before .before .before .before .before .before .past .ensures) e (c .before .before .before .read-block .ensures) in
+    let w = whole-block (now (a .slot)) (now (a .kept)) (a .channel) i _ _ (c .before .before .before .before .before .before .before .past .ensures) e
+    (c .before .before .before .read-block .ensures) in
     let g = block-refused i (now (a .start)) (now (a .end)) (now (a .length)) (now (a .context)) (now (a .last)) (now (a .oldest)) _ _ x w (c .before .reply .given .1) in
     (with-it _ _ _ _ e _ (c .before .before .before .before .if1 .left) (g .0), g .1)
 
@@ -66,9 +67,11 @@ returns-4 c =
     let e = c .before .before .before .before .before .before .before .before .reader-in .ensures .0 in
     let i = now (a .position) in
     let x = blockRead (now (a .slot)) (readerIn (now (a .kept))) (a .channel) i in
-    let w = whole-block (now (a .slot)) (now (a .kept)) (a .channel) i _ _ (c .before .before .before .before .before .before .before .before .before .past .ensures) e (c .before .before .before .before .before .read-block .ensures) in
+    let w = whole-block (now (a .slot)) (now (a .kept)) (a .channel) i _ _ (c .before .before .before .before .before .before .before .before .before .past .ensures) e
+    (c .before .before .before .before .before .read-block .ensures) in
     let q = c .before .before .before .before .before .read-block .result .context in
-    let g = block-given i (now (a .start)) (now (a .end)) (now (a .length)) (now (a .context)) (now (a .last)) (now (a .oldest)) _ (toZ-ofZ w16 (q .last) (search needs)) (toZ-ofZ w16 (q .oldest) (search needs)) x w (c .before .before .before .enum-told2 .given .1) in
+    let g = block-given i (now (a .start)) (now (a .end)) (now (a .length)) (now (a .context)) (now (a .last)) (now (a .oldest)) _ (toZ-ofZ w16 (q .last) (search needs))
+    (toZ-ofZ w16 (q .oldest) (search needs)) x w (c .before .before .before .enum-told2 .given .1) in
     (with-it _ _ _ _ e _ (c .before .before .before .before .before .before .if1 .left) (g .0), g .1)
 
 pub hps-block-spec : {M : Type 1} → statement M

@@ -9,11 +9,8 @@ start-listing-requires c κs = tt
 fill-requires : tie.Need-fill-requires
 fill-requires c κs = c .before .before .start-listing .ensures .1
 
-same-length : tie.Need-same-length
-same-length c = search needs
-
 returns : tie.Need-returns
 returns c = (search (listed-long, needs), search (listed-put, needs))
 
 pub hps-listing-spec : {M : Type 1} → statement M
-hps-listing-spec = tie.close (tie.spec start-listing-requires fill-requires same-length returns)
+hps-listing-spec = tie.close (tie.spec start-listing-requires fill-requires (λ c. search needs) returns)

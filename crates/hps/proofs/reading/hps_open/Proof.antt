@@ -23,8 +23,10 @@ enum-told c = c .match .keys2
 
 put-opened-requires : tie.Need-put-opened-requires
 put-opened-requires c κs =
-    let e = call-opened _ _ (c .before .before .before .before .before .before .before .«open» .ensures .0) (c .before .before .before .before .enum-told .given .1) in
-    (c .before .before .before .before .before .before .before .«open» .ensures .1 .blocks, (opened-offsets _ _ e, (opened-long _ _ e, c .before .before .before .before .before .before .before .before .if1 .left)))
+    let e = call-opened _ _ (c .before .before .before .before .before .before .before .«open» .ensures .0) (c .before .before .before .before .enum-told .given .1) in (
+      c .before .before .before .before .before .before .before .«open» .ensures .1 .blocks,
+      (opened-offsets _ _ e, (opened-long _ _ e, c .before .before .before .before .before .before .before .before .if1 .left)),
+    )
 
 returns-2 : tie.Need-returns-2
 returns-2 c =
@@ -40,8 +42,11 @@ returns-3 : tie.Need-returns-3
 returns-3 c =
     let s = now (c .before .before .before .before .before .before .before .before .before .before .before .before .before .before .args .slot) in
     let k = now (c .before .before .before .before .before .before .before .before .before .before .before .before .before .before .args .kept) in
-    let e = call-opened s _ (c .before .before .before .before .before .before .before .before .before .before .«open» .ensures .0) (c .before .before .before .before .before .before .before .enum-told .given .1) in
-    (open-opened k s _ _ e (c .before .before .before .before .before .before .before .before .before .before .before .if1 .left), open-kept k s _ _ e (c .before .before .before .before .before .before .before .before .before .before .before .if1 .left) (c .before .before .put-opened .ensures))
+    let e = call-opened s _ (c .before .before .before .before .before .before .before .before .before .before .«open» .ensures .0)
+    (c .before .before .before .before .before .before .before .enum-told .given .1) in (
+      open-opened k s _ _ e (c .before .before .before .before .before .before .before .before .before .before .before .if1 .left),
+      open-kept k s _ _ e (c .before .before .before .before .before .before .before .before .before .before .before .if1 .left) (c .before .before .put-opened .ensures),
+    )
 
 pub hps-open-spec : {M : Type 1} → statement M
 hps-open-spec =

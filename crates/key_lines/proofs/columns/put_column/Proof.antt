@@ -16,26 +16,8 @@ Inv-loop out₀ at width n left₀ k₀ out left k = Placing out₀ at width n o
 abbrev μ-loop : tie.MeasureT-loop
 μ-loop out₀ at width n left₀ k₀ out left k = k
 
-inside-requires : tie.Need-inside-requires Inv-loop μ-loop
-inside-requires c κs = search needs
-
 loop-holds : tie.Need-loop-holds Inv-loop μ-loop
 loop-holds c = placing-none _ _ _ _ (passed (c .before .inside .ensures) (c .if1 .taken))
-
-sub-k : tie.Need-sub-k Inv-loop μ-loop
-sub-k c = omega arith
-
-digit-requires : tie.Need-digit-requires Inv-loop μ-loop
-digit-requires c κs = search needs
-
-add-out : tie.Need-add-out Inv-loop μ-loop
-add-out c = omega arith
-
-slice-write-out : tie.Need-slice-write-out Inv-loop μ-loop
-slice-write-out c = omega arith
-
-put-fill-requires : tie.Need-put-fill-requires Inv-loop μ-loop
-put-fill-requires c κs = search needs
 
 same-length : tie.Need-same-length Inv-loop μ-loop
 same-length c =
@@ -46,9 +28,6 @@ returns : tie.Need-returns Inv-loop μ-loop
 returns c =
     placing-blank (c .before .before .before .before .before .before .before .loop .inv) (c .before .before .before .before .before .before .loop-test .taken)
     (c .before .before .before .before .if2 .taken) _ (c .before .before .before .before .before .digit .ensures) _ (c .before .before .put-fill .ensures)
-
-loop-less : tie.Need-loop-less Inv-loop μ-loop
-loop-less c = omega arith
 
 loop-again : tie.Need-loop-again Inv-loop μ-loop
 loop-again c = rw (c .before .digit .ensures) (placing-more (c .before .before .before .loop .inv) (c .before .before .loop-test .taken) (c .if2 .left))
@@ -68,16 +47,16 @@ put-column-spec =
     (tie.spec
     Inv-loop
     μ-loop
-    inside-requires
+    (λ c κs. search needs)
     loop-holds
-    sub-k
-    digit-requires
-    add-out
-    slice-write-out
-    put-fill-requires
+    (λ c. omega arith)
+    (λ c κs. search needs)
+    (λ c. omega arith)
+    (λ c. omega arith)
+    (λ c κs. search needs)
     same-length
     returns
-    loop-less
+    (λ c. omega arith)
     loop-again
     same-length-2
     returns-2

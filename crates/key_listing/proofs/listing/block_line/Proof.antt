@@ -14,21 +14,6 @@ use borrow.Author.Needs.{needs}
 use Rattle.key_listing.proofs.listing.block_line.Statement.{statement}
 use Rattle.key_listing.proofs.listing.block_line.Tie as tie
 
-mul-offset : tie.Need-mul-offset
-mul-offset c = search needs
-
-element-copy-out-offset : tie.Need-element-copy-out-offset
-element-copy-out-offset c = search needs
-
-read-header-requires : tie.Need-read-header-requires
-read-header-requires c κs = search needs
-
-enum-known-header : tie.Need-enum-known-header
-enum-known-header c = search needs
-
-enum-told : tie.Need-enum-told
-enum-told c = search needs
-
 returns : tie.Need-returns
 returns c =
     let z = c .before .before .before .before .before .before in
@@ -36,21 +21,6 @@ returns c =
     line-done (now (a .s)) (a .t2) (Stage.Blocks (a .i)) (now (a .out)) (a .at) _ refl
     (block-short (now (a .s)) (a .t2) (shaped (a .t2) _ (z .good .1 .0) .offsets) (z .pre .0 .blocks) (a .i)
     (z .pre .1) _ (header-short _ _ (c .before .before .read-header .ensures) (c .enum-told .given .1)))
-
-element-copy-out-left : tie.Need-element-copy-out-left
-element-copy-out-left c = search needs
-
-put-block-requires : tie.Need-put-block-requires
-put-block-requires c κs = search needs
-
-add-t12 : tie.Need-add-t12
-add-t12 c = search needs
-
-put-or-requires : tie.Need-put-or-requires
-put-or-requires c κs = search needs
-
-same-length : tie.Need-same-length
-same-length c = search needs
 
 returns-2 : tie.Need-returns-2
 returns-2 c =
@@ -68,15 +38,15 @@ pub block-line-spec : {M : Type 1} → statement M
 block-line-spec =
     tie.close
     (tie.spec
-    mul-offset
-    element-copy-out-offset
-    read-header-requires
-    enum-known-header
-    enum-told
+    (λ c. search needs)
+    (λ c. search needs)
+    (λ c κs. search needs)
+    (λ c. search needs)
+    (λ c. search needs)
     returns
-    element-copy-out-left
-    put-block-requires
-    add-t12
-    put-or-requires
-    same-length
+    (λ c. search needs)
+    (λ c κs. search needs)
+    (λ c. search needs)
+    (λ c κs. search needs)
+    (λ c. search needs)
     returns-2)

@@ -12,39 +12,6 @@ returns c =
     line-done (now (a .s)) (a .r) (Stage.Cues (a .calls) (a .c)) (now (a .out)) (a .at) _ refl
     (cues-gone (now (a .s)) (a .r) (a .calls) (a .c) (c .if1 .taken))
 
-next-cue-requires : tie.Need-next-cue-requires
-next-cue-requires c κs = search needs
-
-enum-told : tie.Need-enum-told
-enum-told c = search needs
-
-enum-told-2 : tie.Need-enum-told-2
-enum-told-2 c = search needs
-
-enum-known-reply : tie.Need-enum-known-reply
-enum-known-reply c = search needs
-
-put-loop-requires : tie.Need-put-loop-requires
-put-loop-requires c κs = search needs
-
-sub-t23 : tie.Need-sub-t23
-sub-t23 c = search needs
-
-put-or-requires : tie.Need-put-or-requires
-put-or-requires c κs = search needs
-
-enum-known-reply-2 : tie.Need-enum-known-reply-2
-enum-known-reply-2 c = search needs
-
-put-cue-requires : tie.Need-put-cue-requires
-put-cue-requires c κs = search needs
-
-sub-t28 : tie.Need-sub-t28
-sub-t28 c = search needs
-
-put-or-requires-2 : tie.Need-put-or-requires-2
-put-or-requires-2 c κs = search needs
-
 returns-2 : tie.Need-returns-2
 returns-2 c =
     let e = c .before .before .before .before in
@@ -61,9 +28,6 @@ returns-3 c =
     (after-end (now (a .s)) (a .r) (a .calls) (a .c) (some _ (e .if1 .left)) _ (c .before .before .before .next-cue .ensures)
     (c .enum-told2 .given .1))
 
-same-length : tie.Need-same-length
-same-length c = search needs
-
 returns-4 : tie.Need-returns-4
 returns-4 c =
     let m = c .before .before .before .before .before .before in
@@ -72,9 +36,6 @@ returns-4 c =
     line-or (now (a .s)) (a .r) (Stage.Cues (a .calls) (a .c)) (now (a .out)) (a .at) _ _
     (after-loop (now (a .s)) (a .r) (a .calls) (a .c) (some _ (e .if1 .left)) _ (m .before .before .before .next-cue .ensures) _ (m .reply .given .1))
     (c .before .before .before .put-loop .ensures) _ (c .put-or .ensures)
-
-same-length-2 : tie.Need-same-length-2
-same-length-2 c = search needs
 
 returns-5 : tie.Need-returns-5
 returns-5 c =
@@ -90,20 +51,20 @@ cue-line-spec =
     tie.close
     (tie.spec
     returns
-    next-cue-requires
-    enum-told
-    enum-told-2
-    enum-known-reply
-    put-loop-requires
-    sub-t23
-    put-or-requires
-    enum-known-reply-2
-    put-cue-requires
-    sub-t28
-    put-or-requires-2
+    (λ c κs. search needs)
+    (λ c. search needs)
+    (λ c. search needs)
+    (λ c. search needs)
+    (λ c κs. search needs)
+    (λ c. search needs)
+    (λ c κs. search needs)
+    (λ c. search needs)
+    (λ c κs. search needs)
+    (λ c. search needs)
+    (λ c κs. search needs)
     returns-2
     returns-3
-    same-length
+    (λ c. search needs)
     returns-4
-    same-length-2
+    (λ c. search needs)
     returns-5)

@@ -4,20 +4,11 @@ use Rattle.key_listing.proofs.StartLaws.{start-long, start-refused, sta
 use Rattle.key_listing.proofs.start.start_listing.Statement.{statement}
 use Rattle.key_listing.proofs.start.start_listing.Tie as tie
 
-open-requires : tie.Need-open-requires
-open-requires c κs = search needs
-
 returns : tie.Need-returns
 returns c =
     let a = c .before .before .before .before .args in
     let e = c .before .before .«open» .ensures in
     (start-long (now (a .s)) _ (c .if1 .taken), e .1)
-
-enum-known-reply : tie.Need-enum-known-reply
-enum-known-reply c = search needs
-
-enum-told : tie.Need-enum-told
-enum-told c = search needs
 
 returns-2 : tie.Need-returns-2
 returns-2 c =
@@ -33,4 +24,4 @@ returns-3 c =
 
 pub start-listing-spec : {M : Type 1} → statement M
 start-listing-spec =
-    tie.close (tie.spec open-requires returns enum-known-reply enum-told returns-2 returns-3)
+    tie.close (tie.spec (λ c κs. search needs) returns (λ c. search needs) (λ c. search needs) returns-2 returns-3)

@@ -7,14 +7,8 @@ use borrow.Author.Needs.{needs}
 use Rattle.layout.proofs.fields.read_i16.Statement.{statement}
 use Rattle.layout.proofs.fields.read_i16.Tie as tie
 
-inside-requires : tie.Need-inside-requires
-inside-requires c κs = search needs
-
 be16-requires : tie.Need-be16-requires
 be16-requires c κs = passed (c .before .inside .ensures) (c .if1 .taken)
-
-signed16-requires : tie.Need-signed16-requires
-signed16-requires c κs = search needs
 
 returns : tie.Need-returns
 returns c = answer-in _ _ _ (passed (c .before .before .before .inside .ensures) (c .before .before .if1 .taken))
@@ -25,4 +19,4 @@ returns-2 c = answer-out _ _ _ (failed (c .before .inside .ensures) (c .if1 .lef
 
 pub read-i16-spec : {M : Type 1} → statement M
 read-i16-spec =
-    tie.close (tie.spec inside-requires be16-requires signed16-requires returns returns-2)
+    tie.close (tie.spec (λ c κs. search needs) be16-requires (λ c κs. search needs) returns returns-2)

@@ -3,9 +3,6 @@ use borrow.Author.Needs.{needs}
 use Rattle.layout.proofs.fields.read_u16.Statement.{statement}
 use Rattle.layout.proofs.fields.read_u16.Tie as tie
 
-inside-requires : tie.Need-inside-requires
-inside-requires c κs = search needs
-
 be16-requires : tie.Need-be16-requires
 be16-requires c κs = passed (c .before .inside .ensures) (c .if1 .taken)
 
@@ -16,4 +13,4 @@ returns-2 : tie.Need-returns-2
 returns-2 c = answer-out _ _ _ (failed (c .before .inside .ensures) (c .if1 .left))
 
 pub read-u16-spec : {M : Type 1} → statement M
-read-u16-spec = tie.close (tie.spec inside-requires be16-requires returns returns-2)
+read-u16-spec = tie.close (tie.spec (λ c κs. search needs) be16-requires returns returns-2)

@@ -3,9 +3,6 @@ use borrow.Author.Needs.{needs}
 use Rattle.layout.proofs.fields.read_u32.Statement.{statement}
 use Rattle.layout.proofs.fields.read_u32.Tie as tie
 
-inside-requires : tie.Need-inside-requires
-inside-requires c κs = search needs
-
 be32-requires : tie.Need-be32-requires
 be32-requires c κs = passed (c .before .inside .ensures) (c .if1 .taken)
 
@@ -16,4 +13,4 @@ returns-2 : tie.Need-returns-2
 returns-2 c = answer-out _ _ _ (failed (c .before .inside .ensures) (c .if1 .left))
 
 pub read-u32-spec : {M : Type 1} → statement M
-read-u32-spec = tie.close (tie.spec inside-requires be32-requires returns returns-2)
+read-u32-spec = tie.close (tie.spec (λ c κs. search needs) be32-requires returns returns-2)

@@ -5,9 +5,6 @@ use borrow.Author.Needs.{needs}
 use Rattle.layout.proofs.fields.read_u8.Statement.{statement}
 use Rattle.layout.proofs.fields.read_u8.Tie as tie
 
-shared-slice-read-t7 : tie.Need-shared-slice-read-t7
-shared-slice-read-t7 c = search needs
-
 returns : tie.Need-returns
 returns c = answer-in _ _ _ (omega arith) refl
 
@@ -15,4 +12,4 @@ returns-2 : tie.Need-returns-2
 returns-2 c = answer-out _ _ _ (omega arith)
 
 pub read-u8-spec : {M : Type 1} → statement M
-read-u8-spec = tie.close (tie.spec shared-slice-read-t7 returns returns-2)
+read-u8-spec = tie.close (tie.spec (λ c. search needs) returns returns-2)

@@ -5,53 +5,11 @@ use borrow.Author.Needs.{needs}
 use Rattle.layout_read.proofs.block.read_header.Statement.{statement}
 use Rattle.layout_read.proofs.block.read_header.Tie as tie
 
-read-u32-requires : tie.Need-read-u32-requires
-read-u32-requires c κs = search needs
-
-enum-known-read : tie.Need-enum-known-read
-enum-known-read c = search needs
-
-enum-told : tie.Need-enum-told
-enum-told c = search needs
-
-number-requires : tie.Need-number-requires
-number-requires c κs = search needs
-
 returns : tie.Need-returns
 returns c = header-out _ _ (missed u32 (c .before .before .before .read-u32 .ensures) (c .before .enum-told .given .1) (c .number .ensures)) (omega arith)
 
-add-read-u32 : tie.Need-add-read-u32
-add-read-u32 c = search needs
-
-read-u32-requires-2 : tie.Need-read-u32-requires-2
-read-u32-requires-2 c κs = search needs
-
-enum-known-read-2 : tie.Need-enum-known-read-2
-enum-known-read-2 c = search needs
-
-enum-told-2 : tie.Need-enum-told-2
-enum-told-2 c = search needs
-
-number-requires-2 : tie.Need-number-requires-2
-number-requires-2 c κs = search needs
-
 returns-2 : tie.Need-returns-2
 returns-2 c = header-out _ _ (missed u32 (c .before .before .before .read-u322 .ensures) (c .before .enum-told2 .given .1) (c .number2 .ensures)) (omega arith)
-
-add-read-u32-2 : tie.Need-add-read-u32-2
-add-read-u32-2 c = search needs
-
-read-u32-requires-3 : tie.Need-read-u32-requires-3
-read-u32-requires-3 c κs = search needs
-
-enum-known-read-3 : tie.Need-enum-known-read-3
-enum-known-read-3 c = search needs
-
-enum-told-3 : tie.Need-enum-told-3
-enum-told-3 c = search needs
-
-number-requires-3 : tie.Need-number-requires-3
-number-requires-3 c κs = search needs
 
 returns-3 : tie.Need-returns-3
 returns-3 c = header-out _ _ (missed u32 (c .before .before .before .read-u323 .ensures) (c .before .enum-told3 .given .1) (c .number3 .ensures)) (omega arith)
@@ -72,22 +30,22 @@ pub read-header-spec : {M : Type 1} → statement M
 read-header-spec =
     tie.close
     (tie.spec
-    read-u32-requires
-    enum-known-read
-    enum-told
-    number-requires
+    (λ c κs. search needs)
+    (λ c. search needs)
+    (λ c. search needs)
+    (λ c κs. search needs)
     returns
-    add-read-u32
-    read-u32-requires-2
-    enum-known-read-2
-    enum-told-2
-    number-requires-2
+    (λ c. search needs)
+    (λ c κs. search needs)
+    (λ c. search needs)
+    (λ c. search needs)
+    (λ c κs. search needs)
     returns-2
-    add-read-u32-2
-    read-u32-requires-3
-    enum-known-read-3
-    enum-told-3
-    number-requires-3
+    (λ c. search needs)
+    (λ c κs. search needs)
+    (λ c. search needs)
+    (λ c. search needs)
+    (λ c κs. search needs)
     returns-3
     read-contexts-on-requires
     returns-4)

@@ -5,21 +5,6 @@ use borrow.Author.Needs.{needs}
 use Rattle.layout_read.proofs.channels.read_channel.Statement.{statement}
 use Rattle.layout_read.proofs.channels.read_channel.Tie as tie
 
-read-u16-requires : tie.Need-read-u16-requires
-read-u16-requires c κs = search needs
-
-enum-known-read : tie.Need-enum-known-read
-enum-known-read c = search needs
-
-enum-told : tie.Need-enum-told
-enum-told c = search needs
-
-number-requires : tie.Need-number-requires
-number-requires c κs = search needs
-
-refused-requires : tie.Need-refused-requires
-refused-requires c κs = search needs
-
 returns : tie.Need-returns
 returns c =
     let m = missed u16 (c .before .before .before .before .read-u16 .ensures) (c .before .before .enum-told .given .1) (c .before .number .ensures) in
@@ -28,40 +13,10 @@ returns c =
 add-read-u16 : tie.Need-add-read-u16
 add-read-u16 c = let g = got u16 (c .before .before .before .read-u16 .ensures) (c .before .read .given .1) in omega (arith, g .inside)
 
-read-u16-requires-2 : tie.Need-read-u16-requires-2
-read-u16-requires-2 c κs = search needs
-
-enum-known-read-2 : tie.Need-enum-known-read-2
-enum-known-read-2 c = search needs
-
-enum-told-2 : tie.Need-enum-told-2
-enum-told-2 c = search needs
-
-number-requires-2 : tie.Need-number-requires-2
-number-requires-2 c κs = search needs
-
-refused-requires-2 : tie.Need-refused-requires-2
-refused-requires-2 c κs = search needs
-
 returns-2 : tie.Need-returns-2
 returns-2 c =
     let m = missed u16 (c .before .before .before .before .read-u162 .ensures) (c .before .before .enum-told2 .given .1) (c .before .number2 .ensures) in
     beside-refused _ _ (c .refused2 .ensures .0) (c .refused2 .ensures .1) (channel-short _ _ m (omega arith))
-
-format-of-requires : tie.Need-format-of-requires
-format-of-requires c κs = search needs
-
-enum-known-read-3 : tie.Need-enum-known-read-3
-enum-known-read-3 c = search needs
-
-enum-told-3 : tie.Need-enum-told-3
-enum-told-3 c = search needs
-
-number-requires-3 : tie.Need-number-requires-3
-number-requires-3 c κs = search needs
-
-refused-requires-3 : tie.Need-refused-requires-3
-refused-requires-3 c κs = search needs
 
 returns-3 : tie.Need-returns-3
 returns-3 c =
@@ -89,24 +44,24 @@ pub read-channel-spec : {M : Type 1} → statement M
 read-channel-spec =
     tie.close
     (tie.spec
-    read-u16-requires
-    enum-known-read
-    enum-told
-    number-requires
-    refused-requires
+    (λ c κs. search needs)
+    (λ c. search needs)
+    (λ c. search needs)
+    (λ c κs. search needs)
+    (λ c κs. search needs)
     returns
     add-read-u16
-    read-u16-requires-2
-    enum-known-read-2
-    enum-told-2
-    number-requires-2
-    refused-requires-2
+    (λ c κs. search needs)
+    (λ c. search needs)
+    (λ c. search needs)
+    (λ c κs. search needs)
+    (λ c κs. search needs)
     returns-2
-    format-of-requires
-    enum-known-read-3
-    enum-told-3
-    number-requires-3
-    refused-requires-3
+    (λ c κs. search needs)
+    (λ c. search needs)
+    (λ c. search needs)
+    (λ c κs. search needs)
+    (λ c κs. search needs)
     returns-3
     read-addresses-on-requires
     returns-4)

@@ -13,35 +13,14 @@ Inv-loop s at coefficients₀ i₀ coefficients i = Reading s at coefficients i
 abbrev μ-loop : tie.MeasureT-loop
 μ-loop s at coefficients₀ i₀ coefficients i = 16 - i
 
-no-coefficients-requires : tie.Need-no-coefficients-requires Inv-loop μ-loop
-no-coefficients-requires c κs = search needs
-
 returns : tie.Need-returns Inv-loop μ-loop
 returns c = beside-refused _ _ (c .no-coefficients .ensures .0) (c .no-coefficients .ensures .1) (answer-out _ _ _ (omega arith))
 
 loop-holds : tie.Need-loop-holds Inv-loop μ-loop
 loop-holds c = reading-none _ _ (omega arith)
 
-mul-read-i16 : tie.Need-mul-read-i16 Inv-loop μ-loop
-mul-read-i16 c = omega arith
-
 add-read-i16 : tie.Need-add-read-i16 Inv-loop μ-loop
 add-read-i16 c = omega (arith, c .before .loop .inv .inside)
-
-read-i16-requires : tie.Need-read-i16-requires Inv-loop μ-loop
-read-i16-requires c κs = search needs
-
-enum-known-read : tie.Need-enum-known-read Inv-loop μ-loop
-enum-known-read c = search needs
-
-enum-told : tie.Need-enum-told Inv-loop μ-loop
-enum-told c = search needs
-
-number-requires : tie.Need-number-requires Inv-loop μ-loop
-number-requires c κs = search needs
-
-no-coefficients-requires-2 : tie.Need-no-coefficients-requires-2 Inv-loop μ-loop
-no-coefficients-requires-2 c κs = search needs
 
 returns-2 : tie.Need-returns-2 Inv-loop μ-loop
 returns-2 c =
@@ -49,18 +28,6 @@ returns-2 c =
     beside-refused _ _ (c .no-coefficients2 .ensures .0) (c .no-coefficients2 .ensures .1)
     (reading-stops (l .before .loop .inv) (l .loop-test .taken)
     (missed i16 (c .before .before .before .before .read-i16 .ensures) (c .before .before .enum-told .given .1) (c .before .number .ensures)))
-
-mul-coefficients : tie.Need-mul-coefficients Inv-loop μ-loop
-mul-coefficients c = omega arith
-
-array-set-from-coefficients : tie.Need-array-set-from-coefficients Inv-loop μ-loop
-array-set-from-coefficients c = omega arith
-
-add-i : tie.Need-add-i Inv-loop μ-loop
-add-i c = omega arith
-
-loop-less : tie.Need-loop-less Inv-loop μ-loop
-loop-less c = omega arith
 
 loop-again : tie.Need-loop-again Inv-loop μ-loop
 loop-again c =
@@ -76,20 +43,20 @@ read-coefficients-spec =
     (tie.spec
     Inv-loop
     μ-loop
-    no-coefficients-requires
+    (λ c κs. search needs)
     returns
     loop-holds
-    mul-read-i16
+    (λ c. omega arith)
     add-read-i16
-    read-i16-requires
-    enum-known-read
-    enum-told
-    number-requires
-    no-coefficients-requires-2
+    (λ c κs. search needs)
+    (λ c. search needs)
+    (λ c. search needs)
+    (λ c κs. search needs)
+    (λ c κs. search needs)
     returns-2
-    mul-coefficients
-    array-set-from-coefficients
-    add-i
-    loop-less
+    (λ c. omega arith)
+    (λ c. omega arith)
+    (λ c. omega arith)
+    (λ c. omega arith)
     loop-again
     returns-3)

@@ -5,53 +5,17 @@ use borrow.Author.Needs.{needs}
 use Rattle.layout_read.proofs.context.read_context.Statement.{statement}
 use Rattle.layout_read.proofs.context.read_context.Tie as tie
 
-read-u16-requires : tie.Need-read-u16-requires
-read-u16-requires c κs = search needs
-
-enum-known-read : tie.Need-enum-known-read
-enum-known-read c = search needs
-
-enum-told : tie.Need-enum-told
-enum-told c = search needs
-
-number-requires : tie.Need-number-requires
-number-requires c κs = search needs
-
 returns : tie.Need-returns
 returns c = field-later (missed u16 (c .before .before .before .read-u16 .ensures) (c .before .enum-told .given .1) (c .number .ensures)) _ _ (omega arith)
 
 add-read-i16 : tie.Need-add-read-i16
 add-read-i16 c = let g = got u16 (c .before .before .before .read-u16 .ensures) (c .before .read .given .1) in omega (arith, g .inside)
 
-read-i16-requires : tie.Need-read-i16-requires
-read-i16-requires c κs = search needs
-
-enum-known-read-2 : tie.Need-enum-known-read-2
-enum-known-read-2 c = search needs
-
-enum-told-2 : tie.Need-enum-told-2
-enum-told-2 c = search needs
-
-number-requires-2 : tie.Need-number-requires-2
-number-requires-2 c κs = search needs
-
 returns-2 : tie.Need-returns-2
 returns-2 c = field-later (missed i16 (c .before .before .before .read-i16 .ensures) (c .before .enum-told2 .given .1) (c .number2 .ensures)) _ _ (omega arith)
 
 add-read-i16-2 : tie.Need-add-read-i16-2
 add-read-i16-2 c = let g = got i16 (c .before .before .before .read-i16 .ensures) (c .before .read2 .given .1) in omega (arith, g .inside)
-
-read-i16-requires-2 : tie.Need-read-i16-requires-2
-read-i16-requires-2 c κs = search needs
-
-enum-known-read-3 : tie.Need-enum-known-read-3
-enum-known-read-3 c = search needs
-
-enum-told-3 : tie.Need-enum-told-3
-enum-told-3 c = search needs
-
-number-requires-3 : tie.Need-number-requires-3
-number-requires-3 c κs = search needs
 
 returns-3 : tie.Need-returns-3
 returns-3 c = field-later (missed i16 (c .before .before .before .read-i162 .ensures) (c .before .enum-told3 .given .1) (c .number3 .ensures)) _ _ (omega arith)
@@ -71,21 +35,21 @@ pub read-context-spec : {M : Type 1} → statement M
 read-context-spec =
     tie.close
     (tie.spec
-    read-u16-requires
-    enum-known-read
-    enum-told
-    number-requires
+    (λ c κs. search needs)
+    (λ c. search needs)
+    (λ c. search needs)
+    (λ c κs. search needs)
     returns
     add-read-i16
-    read-i16-requires
-    enum-known-read-2
-    enum-told-2
-    number-requires-2
+    (λ c κs. search needs)
+    (λ c. search needs)
+    (λ c. search needs)
+    (λ c κs. search needs)
     returns-2
     add-read-i16-2
-    read-i16-requires-2
-    enum-known-read-3
-    enum-told-3
-    number-requires-3
+    (λ c κs. search needs)
+    (λ c. search needs)
+    (λ c. search needs)
+    (λ c κs. search needs)
     returns-3
     returns-4)

@@ -10,15 +10,6 @@ use Rattle.layout_read.proofs.NumberLaws.{number-got, number-missed}
 use Rattle.layout_read.proofs.number_or_zero.signed.Statement.{statement}
 use Rattle.layout_read.proofs.number_or_zero.signed.Tie as tie
 
-read-i16-requires : tie.Need-read-i16-requires
-read-i16-requires c κs = search needs
-
-enum-known-n : tie.Need-enum-known-n
-enum-known-n c = search needs
-
-enum-told : tie.Need-enum-told
-enum-told c = search needs
-
 returns : tie.Need-returns
 unfolding signedAt
 returns c = number-missed (pos 0) (short i16 (c .before .before .read-i16 .ensures) (c .enum-told .given .1))
@@ -30,4 +21,4 @@ returns-2 c =
     toZ-ofZ f ∙ number-got (pos 0) (got i16 (c .before .before .before .read-i16 .ensures) (c .before .n .given .1))
 
 pub signed-spec : {M : Type 1} → statement M
-signed-spec = tie.close (tie.spec read-i16-requires enum-known-n enum-told returns returns-2)
+signed-spec = tie.close (tie.spec (λ c κs. search needs) (λ c. search needs) (λ c. search needs) returns returns-2)

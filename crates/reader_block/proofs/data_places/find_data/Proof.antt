@@ -10,35 +10,11 @@ use borrow.Author.Needs.{needs}
 use Rattle.reader_block.proofs.data_places.find_data.Statement.{statement}
 use Rattle.reader_block.proofs.data_places.find_data.Tie as tie
 
-read-header-requires : tie.Need-read-header-requires
-read-header-requires c κs = search needs
-
-enum-known-read : tie.Need-enum-known-read
-enum-known-read c = search needs
-
-enum-told : tie.Need-enum-told
-enum-told c = search needs
-
-number-requires : tie.Need-number-requires
-number-requires c κs = search needs
-
 returns : tie.Need-returns
 returns c =
     let a = c .before .before .before .before .before .args in
     found-refused (now (a .s)) (a .offset) (a .channel) (a .format)
     (header-refused _ _ (c .before .before .before .read-header .ensures) (c .before .enum-told .given .1) (c .number .ensures))
-
-address-to-byte-up-requires : tie.Need-address-to-byte-up-requires
-address-to-byte-up-requires c κs = search needs
-
-cast-length : tie.Need-cast-length
-cast-length c = search needs
-
-add-length : tie.Need-add-length
-add-length c = search needs
-
-add-first : tie.Need-add-first
-add-first c = search needs
 
 mul-align : tie.Need-mul-align
 mul-align c =
@@ -48,9 +24,6 @@ mul-align c =
     let e = header-got (now (a .s)) (a .offset) (c .before .before .before .before .before .before .read-header .ensures) (c .before .before .before .before .read .given .1) in
     omega (arith, cues-small (now (a .s)) (a .offset) h e (omega arith))
 
-align-requires : tie.Need-align-requires
-align-requires c κs = search needs
-
 add-first-2 : tie.Need-add-first-2
 add-first-2 c =
     let far = c .before .before .before .before .before .before .before in
@@ -58,9 +31,6 @@ add-first-2 c =
     let h = c .before .before .before .before .before .read .given .0 .0 in
     let e = header-got (now (a .s)) (a .offset) (far .read-header .ensures) (c .before .before .before .before .before .read .given .1) in
     omega (arith, c .align .ensures, first-small (now (a .s)) (a .offset) h e (omega arith))
-
-align-requires-2 : tie.Need-align-requires-2
-align-requires-2 c κs = search needs
 
 add-place-data : tie.Need-add-place-data
 add-place-data c =
@@ -79,12 +49,6 @@ add-place-data c =
           (omega arith),
       aligned-small (a .format) (lengthIn h) (omega arith),
     )
-
-place-data-requires : tie.Need-place-data-requires
-place-data-requires c κs = search needs
-
-place-data-requires-2 : tie.Need-place-data-requires-2
-place-data-requires-2 c κs = search needs
 
 returns-2 : tie.Need-returns-2
 returns-2 c =
@@ -114,21 +78,21 @@ pub find-data-spec : {M : Type 1} → statement M
 find-data-spec =
     tie.close
     (tie.spec
-    read-header-requires
-    enum-known-read
-    enum-told
-    number-requires
+    (λ c κs. search needs)
+    (λ c. search needs)
+    (λ c. search needs)
+    (λ c κs. search needs)
     returns
-    address-to-byte-up-requires
-    cast-length
-    add-length
-    add-first
+    (λ c κs. search needs)
+    (λ c. search needs)
+    (λ c. search needs)
+    (λ c. search needs)
     mul-align
-    align-requires
+    (λ c κs. search needs)
     add-first-2
-    align-requires-2
+    (λ c κs. search needs)
     add-place-data
-    place-data-requires
-    place-data-requires-2
+    (λ c κs. search needs)
+    (λ c κs. search needs)
     returns-2
     returns-3)

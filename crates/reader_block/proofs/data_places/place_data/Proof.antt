@@ -6,9 +6,6 @@ use borrow.Author.Needs.{needs}
 use Rattle.reader_block.proofs.data_places.place_data.Statement.{statement}
 use Rattle.reader_block.proofs.data_places.place_data.Tie as tie
 
-inside-requires : tie.Need-inside-requires
-inside-requires c κs = search needs
-
 add-t8 : tie.Need-add-t8
 add-t8 c =
     let a = c .before .before .args in
@@ -21,4 +18,4 @@ returns-2 : tie.Need-returns-2
 returns-2 c = rw (sym (c .before .inside .ensures) ∙ c .if1 .left)
 
 pub place-data-spec : {M : Type 1} → statement M
-place-data-spec = tie.close (tie.spec inside-requires add-t8 returns returns-2)
+place-data-spec = tie.close (tie.spec (λ c κs. search needs) add-t8 returns returns-2)

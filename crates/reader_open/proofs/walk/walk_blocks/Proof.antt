@@ -24,9 +24,6 @@ abbrev μ-walk : tie.MeasureT-walk
 walk-holds : tie.Need-walk-holds Inv-loop μ-loop Inv-walk μ-walk
 walk-holds c = (walking-none _ _, below-none _)
 
-refused-requires : tie.Need-refused-requires Inv-loop μ-loop Inv-walk μ-walk
-refused-requires c κs = search needs
-
 same-length : tie.Need-same-length Inv-loop μ-loop Inv-walk μ-walk
 same-length c =
     let d = c .before .before in
@@ -37,21 +34,6 @@ returns c =
     let d = c .before .before in
     let r = at-full (d .before .before .before .walk .inv .0) (d .before .before .if1 .taken) (d .refused .ensures .0) (d .refused .ensures .1) in
     (r .answer, r .left)
-
-read-header-requires : tie.Need-read-header-requires Inv-loop μ-loop Inv-walk μ-walk
-read-header-requires c κs = search needs
-
-enum-known-read : tie.Need-enum-known-read Inv-loop μ-loop Inv-walk μ-walk
-enum-known-read c = search needs
-
-enum-told : tie.Need-enum-told Inv-loop μ-loop Inv-walk μ-walk
-enum-told c = search needs
-
-number-requires : tie.Need-number-requires Inv-loop μ-loop Inv-walk μ-walk
-number-requires c κs = search needs
-
-refused-requires-2 : tie.Need-refused-requires-2 Inv-loop μ-loop Inv-walk μ-walk
-refused-requires-2 c κs = search needs
 
 same-length-2 : tie.Need-same-length-2 Inv-loop μ-loop Inv-walk μ-walk
 same-length-2 c =
@@ -66,21 +48,6 @@ returns-2 c =
     let r = at-refused (e .before .before .walk .inv .0) (e .before .if1 .left) missing (d .refused2 .ensures .0) (d .refused2 .ensures .1) in
     (r .answer, r .left)
 
-mul-offsets : tie.Need-mul-offsets Inv-loop μ-loop Inv-walk μ-walk
-mul-offsets c = search needs
-
-slice-write-offsets : tie.Need-slice-write-offsets Inv-loop μ-loop Inv-walk μ-walk
-slice-write-offsets c = search needs
-
-add-count : tie.Need-add-count Inv-loop μ-loop Inv-walk μ-walk
-add-count c = search needs
-
-higher-requires : tie.Need-higher-requires Inv-loop μ-loop Inv-walk μ-walk
-higher-requires c κs = search needs
-
-search-from-requires : tie.Need-search-from-requires Inv-loop μ-loop Inv-walk μ-walk
-search-from-requires c κs = search needs
-
 loop-holds : tie.Need-loop-holds Inv-loop μ-loop Inv-walk μ-walk
 loop-holds c =
     let e = c .before .before .before .before .before .before in
@@ -94,18 +61,6 @@ loop-holds c =
           let lower = all-higher (w .0) room _ _ (w .1) (most .0) (most .1) k (omega (arith, from .0)) in
           omega (arith, lower, q, from .1 k l),
     )
-
-mul-if3 : tie.Need-mul-if3 Inv-loop μ-loop Inv-walk μ-walk
-mul-if3 c = search needs
-
-slice-read-if3 : tie.Need-slice-read-if3 Inv-loop μ-loop Inv-walk μ-walk
-slice-read-if3 c = search needs
-
-add-i : tie.Need-add-i Inv-loop μ-loop Inv-walk μ-walk
-add-i c = search needs
-
-loop-less : tie.Need-loop-less Inv-loop μ-loop Inv-walk μ-walk
-loop-less c = search needs
 
 loop-again : tie.Need-loop-again Inv-loop μ-loop Inv-walk μ-walk
 loop-again c =
@@ -162,26 +117,26 @@ walk-blocks-spec =
     Inv-walk
     μ-walk
     walk-holds
-    refused-requires
+    (λ c κs. search needs)
     same-length
     returns
-    read-header-requires
-    enum-known-read
-    enum-told
-    number-requires
-    refused-requires-2
+    (λ c κs. search needs)
+    (λ c. search needs)
+    (λ c. search needs)
+    (λ c κs. search needs)
+    (λ c κs. search needs)
     same-length-2
     returns-2
-    mul-offsets
-    slice-write-offsets
-    add-count
-    higher-requires
-    search-from-requires
+    (λ c. search needs)
+    (λ c. search needs)
+    (λ c. search needs)
+    (λ c κs. search needs)
+    (λ c κs. search needs)
     loop-holds
-    mul-if3
-    slice-read-if3
-    add-i
-    loop-less
+    (λ c. search needs)
+    (λ c. search needs)
+    (λ c. search needs)
+    (λ c. search needs)
     loop-again
     walk-less
     walk-again

@@ -9,26 +9,11 @@ use Rattle.layout.proofs.least.Reads as least-reads
 use Rattle.replay.proofs.loading.run_call.Reads as run-call-reads
 use Rattle.replay_input.proofs.size.Reads as size-reads
 
-size-requires : tie.Need-size-requires
-size-requires c κs = search needs
-
-least-requires : tie.Need-least-requires
-least-requires c κs = search needs
-
 slice-relend-prefix-run-call : tie.Need-slice-relend-prefix-run-call
 slice-relend-prefix-run-call c = search needs
 
 slice-aggregate-run-call : tie.Need-slice-aggregate-run-call
 slice-aggregate-run-call c = sym (length-take-le _ _ (slice-relend-prefix-run-call (c .before)))
-
-run-call-requires : tie.Need-run-call-requires
-run-call-requires c κs = search needs
-
-same-length : tie.Need-same-length
-same-length c = search needs
-
-same-length-2 : tie.Need-same-length-2
-same-length-2 c = search needs
 
 returns : tie.Need-returns
 returns c = search needs
@@ -37,11 +22,11 @@ pub lend-spec : {M : Type 1} → statement M
 lend-spec =
     tie.close
     (tie.spec
-    size-requires
-    least-requires
+    (λ c κs. search needs)
+    (λ c κs. search needs)
     slice-relend-prefix-run-call
     slice-aggregate-run-call
-    run-call-requires
-    same-length
-    same-length-2
+    (λ c κs. search needs)
+    (λ c. search needs)
+    (λ c. search needs)
     returns)

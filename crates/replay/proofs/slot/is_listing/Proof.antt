@@ -20,21 +20,6 @@ Inv-loop s want r stage₀ out₀ done₀ turns₀ stage out done turns = (lengt
 abbrev μ-loop : tie.MeasureT-loop
 μ-loop s want r stage₀ out₀ done₀ turns₀ stage out done turns = 100 - turns
 
-start-listing-requires : tie.Need-start-listing-requires Inv-loop μ-loop
-start-listing-requires c κs = search needs
-
-large-buffer-requires : tie.Need-large-buffer-requires Inv-loop μ-loop
-large-buffer-requires c κs = search needs
-
-loop-holds : tie.Need-loop-holds Inv-loop μ-loop
-loop-holds c = search needs
-
-slice-aggregate-fill : tie.Need-slice-aggregate-fill Inv-loop μ-loop
-slice-aggregate-fill c = search needs
-
-fill-requires : tie.Need-fill-requires Inv-loop μ-loop
-fill-requires c κs = search needs
-
 returns : tie.Need-returns Inv-loop μ-loop
 returns c = search needs
 
@@ -44,23 +29,11 @@ array-share-prefix-out c = filled-inside (c .before .before .fill .ensures)
 slice-aggregate-same : tie.Need-slice-aggregate-same Inv-loop μ-loop
 slice-aggregate-same c = filled-prefix (c .before .before .before .fill .ensures)
 
-part-requires : tie.Need-part-requires Inv-loop μ-loop
-part-requires c κs = search needs
-
-same-requires : tie.Need-same-requires Inv-loop μ-loop
-same-requires c κs = search needs
-
 returns-2 : tie.Need-returns-2 Inv-loop μ-loop
 returns-2 c = search needs
 
 add-done : tie.Need-add-done Inv-loop μ-loop
 add-done c = omega (arith, filled-fits (c .before .before .before .before .before .before .fill .ensures))
-
-add-turns : tie.Need-add-turns Inv-loop μ-loop
-add-turns c = search needs
-
-loop-less : tie.Need-loop-less Inv-loop μ-loop
-loop-less c = search needs
 
 loop-again : tie.Need-loop-again Inv-loop μ-loop
 loop-again c = (search needs, omega arith, omega (arith, filled-fits (c .before .before .before .before .before .before .fill .ensures)))
@@ -74,19 +47,19 @@ is-listing-spec =
     (tie.spec
     Inv-loop
     μ-loop
-    start-listing-requires
-    large-buffer-requires
-    loop-holds
-    slice-aggregate-fill
-    fill-requires
+    (λ c κs. search needs)
+    (λ c κs. search needs)
+    (λ c. search needs)
+    (λ c. search needs)
+    (λ c κs. search needs)
     returns
     array-share-prefix-out
     slice-aggregate-same
-    part-requires
-    same-requires
+    (λ c κs. search needs)
+    (λ c κs. search needs)
     returns-2
     add-done
-    add-turns
-    loop-less
+    (λ c. search needs)
+    (λ c. search needs)
     loop-again
     returns-3)

@@ -4,29 +4,14 @@ use Rattle.reader_channel.proofs.ChannelLaws.{read-on}
 use Rattle.replay.proofs.slot.reader_answer.Statement.{statement}
 use Rattle.replay.proofs.slot.reader_answer.Tie as tie
 
-read-at-requires : tie.Need-read-at-requires
-read-at-requires c κs = search needs
-
 returns : tie.Need-returns
 returns c = search needs
-
-read-at-requires-2 : tie.Need-read-at-requires-2
-read-at-requires-2 c κs = search needs
 
 returns-2 : tie.Need-returns-2
 returns-2 c = search needs
 
-read-at-requires-3 : tie.Need-read-at-requires-3
-read-at-requires-3 c κs = search needs
-
 returns-3 : tie.Need-returns-3
 returns-3 c = search needs
-
-sub-read-next : tie.Need-sub-read-next
-sub-read-next c = search needs
-
-read-next-requires : tie.Need-read-next-requires
-read-next-requires c κs = search needs
 
 returns-4 : tie.Need-returns-4
 returns-4 c =
@@ -37,12 +22,12 @@ pub reader-answer-spec : {M : Type 1} → statement M
 reader-answer-spec =
     tie.close
     (tie.spec
-    read-at-requires
+    (λ c κs. search needs)
     returns
-    read-at-requires-2
+    (λ c κs. search needs)
     returns-2
-    read-at-requires-3
+    (λ c κs. search needs)
     returns-3
-    sub-read-next
-    read-next-requires
+    (λ c. search needs)
+    (λ c κs. search needs)
     returns-4)

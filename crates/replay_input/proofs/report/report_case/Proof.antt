@@ -11,24 +11,6 @@ use Rattle.replay_input.proofs.report.print_count.Reads as print-count-
 returns : tie.Need-returns
 returns c = (rw (c .if1 .taken), omega arith)
 
-slice-aggregate-write-all : tie.Need-slice-aggregate-write-all
-slice-aggregate-write-all c = search needs
-
-write-all-requires : tie.Need-write-all-requires
-write-all-requires c κs = search needs
-
-slice-aggregate-print-count : tie.Need-slice-aggregate-print-count
-slice-aggregate-print-count c = search needs
-
-print-count-requires : tie.Need-print-count-requires
-print-count-requires c κs = search needs
-
-slice-aggregate-print-count-2 : tie.Need-slice-aggregate-print-count-2
-slice-aggregate-print-count-2 c = search needs
-
-print-count-requires-2 : tie.Need-print-count-requires-2
-print-count-requires-2 c κs = search needs
-
 returns-2 : tie.Need-returns-2
 returns-2 c = (rw (ne-eqb _ 0 (c .before .before .before .before .before .before .if1 .left)), omega arith)
 
@@ -37,10 +19,10 @@ report-case-spec =
     tie.close
     (tie.spec
     returns
-    slice-aggregate-write-all
-    write-all-requires
-    slice-aggregate-print-count
-    print-count-requires
-    slice-aggregate-print-count-2
-    print-count-requires-2
+    (λ c. search needs)
+    (λ c κs. search needs)
+    (λ c. search needs)
+    (λ c κs. search needs)
+    (λ c. search needs)
+    (λ c κs. search needs)
     returns-2)

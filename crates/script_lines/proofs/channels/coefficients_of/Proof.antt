@@ -18,26 +18,9 @@ abbrev μ-loop : tie.MeasureT-loop
 loop-holds : tie.Need-loop-holds Inv-loop μ-loop
 loop-holds c = read-none _
 
-add-small-at : tie.Need-add-small-at Inv-loop μ-loop
-add-small-at c = search needs
-
-small-at-requires : tie.Need-small-at-requires Inv-loop μ-loop
-small-at-requires c κs = search needs
-
-mul-values : tie.Need-mul-values Inv-loop μ-loop
-mul-values c = search needs
-
-array-set-from-values : tie.Need-array-set-from-values Inv-loop μ-loop
-array-set-from-values c = search needs
-
-add-i : tie.Need-add-i Inv-loop μ-loop
-add-i c = search needs
-
-loop-less : tie.Need-loop-less Inv-loop μ-loop
-loop-less c = search needs
-
 loop-again : tie.Need-loop-again Inv-loop μ-loop
-loop-again c = rw (toZ-ofZ {w = w16} {z = c .before .before .small-at .result .value} (record { sfits = c .struct-told .given .1 .0 .1 })) (read-more (c .before .before .before .before .loop .inv) (search needs) (c .before .before .small-at .ensures))
+loop-again c = rw (toZ-ofZ {w = w16} {z = c .before .before .small-at .result .value} (record { sfits = c .struct-told .given .1 .0 .1 }))
+    (read-more (c .before .before .before .before .loop .inv) (search needs) (c .before .before .small-at .ensures))
 
 returns : tie.Need-returns Inv-loop μ-loop
 returns c = read-all (c .before .loop .inv) (search needs)
@@ -49,11 +32,11 @@ coefficients-of-spec =
     Inv-loop
     μ-loop
     loop-holds
-    add-small-at
-    small-at-requires
-    mul-values
-    array-set-from-values
-    add-i
-    loop-less
+    (λ c. search needs)
+    (λ c κs. search needs)
+    (λ c. search needs)
+    (λ c. search needs)
+    (λ c. search needs)
+    (λ c. search needs)
     loop-again
     returns)

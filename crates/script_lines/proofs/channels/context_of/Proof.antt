@@ -9,23 +9,15 @@ use Rattle.script_lines.proofs.channels.context_of.Lts as lts
 use Rattle.script_lines.proofs.lines.decimal_at.Reads as decimal-at-reads
 use Rattle.script_lines.proofs.lines.small_at.Reads as small-at-reads
 
-decimal-at-requires : tie.Need-decimal-at-requires
-decimal-at-requires c κs = search needs
-
-small-at-requires : tie.Need-small-at-requires
-small-at-requires c κs = search needs
-
-small-at-requires-2 : tie.Need-small-at-requires-2
-small-at-requires-2 c κs = search needs
-
-cast-t6 : tie.Need-cast-t6
-cast-t6 c = search needs
-
 returns : tie.Need-returns
 returns c =
-    rw (toZ-ofZ {w = w16} {z = c .before .before .before .before .before .before .before .small-at .result .value} (record { sfits = c .before .before .before .before .struct-told .given .1 .0 .1 }), toZ-ofZ {w = w16} {z = c .before .before .before .before .before .before .small-at2 .result .value} (record { sfits = c .before .before .before .struct-told2 .given .1 .0 .1 }))
-    (context-read _ (c .before .before .before .before .before .before .before .before .decimal-at .ensures .0) (c .before .before .before .before .before .before .before .small-at .ensures) (c .before .before .before .before .before .before .small-at2 .ensures))
+    rw (
+      toZ-ofZ {w = w16} {z = c .before .before .before .before .before .before .before .small-at .result .value} (record { sfits = c .before .before .before .before .struct-told .given .1 .0 .1 }),
+      toZ-ofZ {w = w16} {z = c .before .before .before .before .before .before .small-at2 .result .value} (record { sfits = c .before .before .before .struct-told2 .given .1 .0 .1 }),
+    )
+    (context-read _ (c .before .before .before .before .before .before .before .before .decimal-at .ensures .0) (c .before .before .before .before .before .before .before .small-at .ensures)
+    (c .before .before .before .before .before .before .small-at2 .ensures))
 
 pub context-of-spec : {M : Type 1} → statement M
 context-of-spec =
-    tie.close (tie.spec decimal-at-requires small-at-requires small-at-requires-2 cast-t6 returns)
+    tie.close (tie.spec (λ c κs. search needs) (λ c κs. search needs) (λ c κs. search needs) (λ c. search needs) returns)

@@ -10,40 +10,34 @@ use Rattle.layout_read.proofs.number_or_zero.word.Reads as number-reads
 use Rattle.script_words.proofs.text.word.Reads as word-reads
 use Rattle.script_words.proofs.text.word_count.Reads as word-count-reads
 
-word-count-requires : tie.Need-word-count-requires
-word-count-requires c κs = search needs
-
 returns : tie.Need-returns
 unfolding lineKind
 returns c = rw (← c .before .word-count .ensures, eq-eqb _ _ (c .if1 .taken))
-
-word-requires : tie.Need-word-requires
-word-requires c κs = search needs
 
 returns-2 : tie.Need-returns-2
 unfolding lineKind
 returns-2 c = rw (← c .before .before .before .word-count .ensures, ne-eqb _ _ (c .before .before .if1 .left), ← c .before .word .ensures, ne-eqb _ _ (c .if2 .taken))
 
-word-requires-2 : tie.Need-word-requires-2
-word-requires-2 c κs = search needs
-
-named-requires : tie.Need-named-requires
-named-requires c κs = search needs
-
 returns-3 : tie.Need-returns-3
 unfolding lineKind
 returns-3 c =
-    rw (← c .before .before .before .before .before .word-count .ensures, ne-eqb _ _ (c .before .before .before .before .if1 .left), ← c .before .before .before .word .ensures, eq-eqb _ _ (c .before .before .if2 .left), ← c .before .word2 .ensures)
+    rw (
+      ← c .before .before .before .before .before .word-count .ensures,
+      ne-eqb _ _ (c .before .before .before .before .if1 .left),
+      ← c .before .before .before .word .ensures,
+      eq-eqb _ _ (c .before .before .if2 .left),
+      ← c .before .word2 .ensures,
+    )
     (c .named .ensures)
 
 pub kind-of-spec : {M : Type 1} → statement M
 kind-of-spec =
     tie.close
     (tie.spec
-    word-count-requires
+    (λ c κs. search needs)
     returns
-    word-requires
+    (λ c κs. search needs)
     returns-2
-    word-requires-2
-    named-requires
+    (λ c κs. search needs)
+    (λ c κs. search needs)
     returns-3)

@@ -7,30 +7,6 @@ use Rattle.script_lines.proofs.kinds.named.Reads as reads
 use Rattle.script_lines.proofs.kinds.named.Lts as lts
 use Rattle.script_lines.proofs.kinds.with_words.Reads as with-words-reads
 
-with-words-requires : tie.Need-with-words-requires
-with-words-requires c κs = search needs
-
-with-words-requires-2 : tie.Need-with-words-requires-2
-with-words-requires-2 c κs = search needs
-
-with-words-requires-3 : tie.Need-with-words-requires-3
-with-words-requires-3 c κs = search needs
-
-with-words-requires-4 : tie.Need-with-words-requires-4
-with-words-requires-4 c κs = search needs
-
-with-words-requires-5 : tie.Need-with-words-requires-5
-with-words-requires-5 c κs = search needs
-
-with-words-requires-6 : tie.Need-with-words-requires-6
-with-words-requires-6 c κs = search needs
-
-with-words-requires-7 : tie.Need-with-words-requires-7
-with-words-requires-7 c κs = search needs
-
-with-words-requires-8 : tie.Need-with-words-requires-8
-with-words-requires-8 c κs = search needs
-
 returns : tie.Need-returns
 unfolding nameSaid
 returns c = rw (c .before .match .keys1) (c .with-words .ensures)
@@ -65,20 +41,29 @@ returns-8 c = rw (c .before .match .keys8) (c .with-words8 .ensures)
 
 returns-9 : tie.Need-returns-9
 unfolding nameSaid
-returns-9 c = rw (ne-eqb _ _ (c .match .rest .0 .0 .0 .0 .0 .0 .0 .1), ne-eqb _ _ (c .match .rest .0 .0 .0 .0 .0 .0 .1), ne-eqb _ _ (c .match .rest .0 .0 .0 .0 .0 .1), ne-eqb _ _ (c .match .rest .0 .0 .0 .0 .1), ne-eqb _ _ (c .match .rest .0 .0 .0 .1), ne-eqb _ _ (c .match .rest .0 .0 .1), ne-eqb _ _ (c .match .rest .0 .1), ne-eqb _ _ (c .match .rest .1))
+returns-9 c = rw (
+  ne-eqb _ _ (c .match .rest .0 .0 .0 .0 .0 .0 .0 .1),
+  ne-eqb _ _ (c .match .rest .0 .0 .0 .0 .0 .0 .1),
+  ne-eqb _ _ (c .match .rest .0 .0 .0 .0 .0 .1),
+  ne-eqb _ _ (c .match .rest .0 .0 .0 .0 .1),
+  ne-eqb _ _ (c .match .rest .0 .0 .0 .1),
+  ne-eqb _ _ (c .match .rest .0 .0 .1),
+  ne-eqb _ _ (c .match .rest .0 .1),
+  ne-eqb _ _ (c .match .rest .1),
+)
 
 pub named-spec : {M : Type 1} → statement M
 named-spec =
     tie.close
     (tie.spec
-    with-words-requires
-    with-words-requires-2
-    with-words-requires-3
-    with-words-requires-4
-    with-words-requires-5
-    with-words-requires-6
-    with-words-requires-7
-    with-words-requires-8
+    (λ c κs. search needs)
+    (λ c κs. search needs)
+    (λ c κs. search needs)
+    (λ c κs. search needs)
+    (λ c κs. search needs)
+    (λ c κs. search needs)
+    (λ c κs. search needs)
+    (λ c κs. search needs)
     returns
     returns-2
     returns-3

@@ -8,19 +8,15 @@ use Rattle.script_lines.proofs.lines.begin_line.Lts as lts
 use Rattle.script_lines.proofs.lines.decimal_at.Reads as decimal-at-reads
 use Rattle.script_lines.proofs.lines.mode_of.Reads as mode-of-reads
 
-decimal-at-requires : tie.Need-decimal-at-requires
-decimal-at-requires c κs = search needs
-
-decimal-at-requires-2 : tie.Need-decimal-at-requires-2
-decimal-at-requires-2 c κs = search needs
-
-mode-of-requires : tie.Need-mode-of-requires
-mode-of-requires c κs = search needs
-
 returns : tie.Need-returns
 unfolding beginLine
-returns c = rw (both (c .before .before .before .before .decimal-at .result .good) (c .before .before .before .decimal-at2 .result .good), c .mode-of .ensures, c .before .before .before .before .decimal-at .ensures .0, c .before .before .before .decimal-at2 .ensures .0)
+returns c = rw (
+  both (c .before .before .before .before .decimal-at .result .good) (c .before .before .before .decimal-at2 .result .good),
+  c .mode-of .ensures,
+  c .before .before .before .before .decimal-at .ensures .0,
+  c .before .before .before .decimal-at2 .ensures .0,
+)
 
 pub begin-line-spec : {M : Type 1} → statement M
 begin-line-spec =
-    tie.close (tie.spec decimal-at-requires decimal-at-requires-2 mode-of-requires returns)
+    tie.close (tie.spec (λ c κs. search needs) (λ c κs. search needs) (λ c κs. search needs) returns)

@@ -9,21 +9,6 @@ use Rattle.script_lines.proofs.lines.cue_line.Lts as lts
 use Rattle.script_lines.proofs.lines.cue_named.Reads as cue-named-reads
 use Rattle.script_lines.proofs.lines.range_line.Reads as range-line-reads
 
-enum-told : tie.Need-enum-told
-enum-told c = search needs
-
-range-line-requires : tie.Need-range-line-requires
-range-line-requires c κs = search needs
-
-enum-told-2 : tie.Need-enum-told-2
-enum-told-2 c = search needs
-
-cue-named-requires : tie.Need-cue-named-requires
-cue-named-requires c κs = search needs
-
-cue-named-requires-2 : tie.Need-cue-named-requires-2
-cue-named-requires-2 c κs = search needs
-
 returns : tie.Need-returns
 unfolding cueSaid
 returns c = rw (c .before .enum-told .given .1) (c .range-line .ensures)
@@ -39,11 +24,11 @@ pub cue-line-spec : {M : Type 1} → statement M
 cue-line-spec =
     tie.close
     (tie.spec
-    enum-told
-    range-line-requires
-    enum-told-2
-    cue-named-requires
-    cue-named-requires-2
+    (λ c. search needs)
+    (λ c κs. search needs)
+    (λ c. search needs)
+    (λ c κs. search needs)
+    (λ c κs. search needs)
     returns
     returns-2
     returns-3)

@@ -7,18 +7,13 @@ use Rattle.script_lines.proofs.lines.cue_named.Reads as reads
 use Rattle.script_lines.proofs.lines.cue_named.Lts as lts
 use Rattle.script_lines.proofs.lines.decimal_at.Reads as decimal-at-reads
 
-decimal-at-requires : tie.Need-decimal-at-requires
-decimal-at-requires c κs = search needs
-
-decimal-at-requires-2 : tie.Need-decimal-at-requires-2
-decimal-at-requires-2 c κs = search needs
-
-cast-t7 : tie.Need-cast-t7
-cast-t7 c = search needs
-
 returns : tie.Need-returns
 unfolding cueNamed
-returns c = rw (both (c .before .before .before .before .decimal-at .result .good) (c .before .before .before .decimal-at2 .result .good), c .before .before .before .before .decimal-at .ensures .0, c .before .before .before .decimal-at2 .ensures .0)
+returns c = rw (
+  both (c .before .before .before .before .decimal-at .result .good) (c .before .before .before .decimal-at2 .result .good),
+  c .before .before .before .before .decimal-at .ensures .0,
+  c .before .before .before .decimal-at2 .ensures .0,
+)
 
 pub cue-named-spec : {M : Type 1} → statement M
-cue-named-spec = tie.close (tie.spec decimal-at-requires decimal-at-requires-2 cast-t7 returns)
+cue-named-spec = tie.close (tie.spec (λ c κs. search needs) (λ c κs. search needs) (λ c. search needs) returns)

@@ -7,15 +7,9 @@ use Rattle.script_lines.proofs.lines.decimal_at.Lts as lts
 use Rattle.script_words.proofs.numbers.unsigned.Reads as unsigned-reads
 use Rattle.script_words.proofs.text.word.Reads as word-reads
 
-word-requires : tie.Need-word-requires
-word-requires c κs = search needs
-
-unsigned-requires : tie.Need-unsigned-requires
-unsigned-requires c κs = search needs
-
 returns : tie.Need-returns
 unfolding decimalAt
 returns c = (rw (← c .before .word .ensures) (c .unsigned .ensures .0), c .unsigned .ensures .1)
 
 pub decimal-at-spec : {M : Type 1} → statement M
-decimal-at-spec = tie.close (tie.spec word-requires unsigned-requires returns)
+decimal-at-spec = tie.close (tie.spec (λ c κs. search needs) (λ c κs. search needs) returns)

@@ -6,12 +6,9 @@ use Rattle.script_lines.proofs.lines.lent_line.Reads as reads
 use Rattle.script_lines.proofs.lines.lent_line.Lts as lts
 use Rattle.script_lines.proofs.lines.decimal_at.Reads as decimal-at-reads
 
-decimal-at-requires : tie.Need-decimal-at-requires
-decimal-at-requires c κs = search needs
-
 returns : tie.Need-returns
 unfolding lentLine
 returns c = rw (c .decimal-at .ensures .0)
 
 pub lent-line-spec : {M : Type 1} → statement M
-lent-line-spec = tie.close (tie.spec decimal-at-requires returns)
+lent-line-spec = tie.close (tie.spec (λ c κs. search needs) returns)

@@ -7,15 +7,13 @@ use Rattle.script_lines.proofs.lines.push_line.Reads as reads
 use Rattle.script_lines.proofs.lines.push_line.Lts as lts
 use Rattle.script_lines.proofs.lines.decimal_at.Reads as decimal-at-reads
 
-decimal-at-requires : tie.Need-decimal-at-requires
-decimal-at-requires c κs = search needs
-
-decimal-at-requires-2 : tie.Need-decimal-at-requires-2
-decimal-at-requires-2 c κs = search needs
-
 returns : tie.Need-returns
 unfolding pushLine
-returns c = rw (both (c .before .before .before .before .decimal-at .result .good) (c .before .before .before .decimal-at2 .result .good), c .before .before .before .before .decimal-at .ensures .0, c .before .before .before .decimal-at2 .ensures .0)
+returns c = rw (
+  both (c .before .before .before .before .decimal-at .result .good) (c .before .before .before .decimal-at2 .result .good),
+  c .before .before .before .before .decimal-at .ensures .0,
+  c .before .before .before .decimal-at2 .ensures .0,
+)
 
 pub push-line-spec : {M : Type 1} → statement M
-push-line-spec = tie.close (tie.spec decimal-at-requires decimal-at-requires-2 returns)
+push-line-spec = tie.close (tie.spec (λ c κs. search needs) (λ c κs. search needs) returns)

@@ -8,15 +8,13 @@ use Rattle.script_lines.proofs.lines.range_line.Lts as lts
 use Rattle.script_lines.proofs.lines.cue_named.Reads as cue-named-reads
 use Rattle.script_lines.proofs.lines.decimal_at.Reads as decimal-at-reads
 
-decimal-at-requires : tie.Need-decimal-at-requires
-decimal-at-requires c κs = search needs
-
-cue-named-requires : tie.Need-cue-named-requires
-cue-named-requires c κs = search needs
-
 returns : tie.Need-returns
 unfolding rangeLine
-returns c = rw (both (c .before .before .before .cue-named .result .good) (c .before .before .before .before .decimal-at .result .good), c .before .before .before .cue-named .ensures, c .before .before .before .before .decimal-at .ensures .0)
+returns c = rw (
+  both (c .before .before .before .cue-named .result .good) (c .before .before .before .before .decimal-at .result .good),
+  c .before .before .before .cue-named .ensures,
+  c .before .before .before .before .decimal-at .ensures .0,
+)
 
 pub range-line-spec : {M : Type 1} → statement M
-range-line-spec = tie.close (tie.spec decimal-at-requires cue-named-requires returns)
+range-line-spec = tie.close (tie.spec (λ c κs. search needs) (λ c κs. search needs) returns)

@@ -7,15 +7,9 @@ use Rattle.script_lines.proofs.lines.small_at.Lts as lts
 use Rattle.script_words.proofs.numbers.signed.Reads as signed-reads
 use Rattle.script_words.proofs.text.word.Reads as word-reads
 
-word-requires : tie.Need-word-requires
-word-requires c κs = search needs
-
-signed-requires : tie.Need-signed-requires
-signed-requires c κs = search needs
-
 returns : tie.Need-returns
 unfolding smallAt
 returns c = rw (← c .before .word .ensures) (c .signed .ensures)
 
 pub small-at-spec : {M : Type 1} → statement M
-small-at-spec = tie.close (tie.spec word-requires signed-requires returns)
+small-at-spec = tie.close (tie.spec (λ c κs. search needs) (λ c κs. search needs) returns)

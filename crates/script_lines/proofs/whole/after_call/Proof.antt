@@ -7,21 +7,6 @@ use Rattle.script_lines.proofs.whole.after_call.Reads as reads
 use Rattle.script_lines.proofs.whole.after_call.Lts as lts
 use Rattle.script_lines.proofs.lines.push_line.Reads as push-line-reads
 
-enum-told : tie.Need-enum-told
-enum-told c = search needs
-
-enum-told-2 : tie.Need-enum-told-2
-enum-told-2 c = search needs
-
-push-line-requires : tie.Need-push-line-requires
-push-line-requires c κs = search needs
-
-enum-told-3 : tie.Need-enum-told-3
-enum-told-3 c = search needs
-
-enum-told-4 : tie.Need-enum-told-4
-enum-told-4 c = search needs
-
 returns : tie.Need-returns
 unfolding afterCall
 returns c = rw (c .enum-told .given .1)
@@ -45,11 +30,11 @@ pub after-call-spec : {M : Type 1} → statement M
 after-call-spec =
     tie.close
     (tie.spec
-    enum-told
-    enum-told-2
-    push-line-requires
-    enum-told-3
-    enum-told-4
+    (λ c. search needs)
+    (λ c. search needs)
+    (λ c κs. search needs)
+    (λ c. search needs)
+    (λ c. search needs)
     returns
     returns-2
     returns-3

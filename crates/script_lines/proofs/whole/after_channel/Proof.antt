@@ -5,12 +5,6 @@ use Rattle.script_lines.proofs.whole.after_channel.Tie as tie
 use Rattle.script_lines.proofs.whole.after_channel.Reads as reads
 use Rattle.script_lines.proofs.whole.after_channel.Lts as lts
 
-enum-told : tie.Need-enum-told
-enum-told c = search needs
-
-sub-t4 : tie.Need-sub-t4
-sub-t4 c = search needs
-
 returns : tie.Need-returns
 returns c = rw (c .enum-told .given .1)
 
@@ -18,4 +12,4 @@ returns-2 : tie.Need-returns-2
 returns-2 c = no-channel (c .before .args .kind) (c .before .args .channels) (c .match .keys2)
 
 pub after-channel-spec : {M : Type 1} → statement M
-after-channel-spec = tie.close (tie.spec enum-told sub-t4 returns returns-2)
+after-channel-spec = tie.close (tie.spec (λ c. search needs) (λ c. search needs) returns returns-2)

@@ -11,43 +11,30 @@ use Rattle.script_lines.proofs.whole.after_call.Reads as after-call-rea
 use Rattle.script_lines.proofs.whole.after_channel.Reads as after-channel-reads
 use Rattle.script_lines.proofs.whole.says_all.Reads as says-all-reads
 
-kind-of-requires : tie.Need-kind-of-requires
-kind-of-requires c κs = search needs
-
-enum-told : tie.Need-enum-told
-enum-told c = search needs
-
 returns : tie.Need-returns
 returns c = line-nothing _ _ (c .before .before .kind-of .ensures) (c .enum-told .given .1)
-
-says-all-requires : tie.Need-says-all-requires
-says-all-requires c κs = search needs
 
 returns-2 : tie.Need-returns-2
 returns-2 c = line-unsaid _ _ (c .before .before .before .kind-of .ensures) (c .before .before .match .keys2) (sym (c .before .says-all .ensures) ∙ not-true _ (c .if1 .taken))
 
-after-channel-requires : tie.Need-after-channel-requires
-after-channel-requires c κs = search needs
-
 returns-3 : tie.Need-returns-3
-returns-3 c = c .after-channel .ensures ∙ line-channel _ _ (c .before .before .before .before .before .kind-of .ensures) (c .before .before .before .before .match .keys2) (sym (c .before .before .before .says-all .ensures) ∙ not-false _ (c .before .before .if1 .left)) (c .before .if2 .taken)
-
-after-call-requires : tie.Need-after-call-requires
-after-call-requires c κs = search needs
+returns-3 c = c .after-channel .ensures ∙ line-channel _ _ (c .before .before .before .before .before .kind-of .ensures) (c .before .before .before .before .match .keys2)
+    (sym (c .before .before .before .says-all .ensures) ∙ not-false _ (c .before .before .if1 .left)) (c .before .if2 .taken)
 
 returns-4 : tie.Need-returns-4
-returns-4 c = c .after-call .ensures ∙ line-call _ _ (c .before .before .before .before .before .kind-of .ensures) (c .before .before .before .before .match .keys2) (sym (c .before .before .before .says-all .ensures) ∙ not-false _ (c .before .before .if1 .left)) (c .before .if2 .left)
+returns-4 c = c .after-call .ensures ∙ line-call _ _ (c .before .before .before .before .before .kind-of .ensures) (c .before .before .before .before .match .keys2)
+    (sym (c .before .before .before .says-all .ensures) ∙ not-false _ (c .before .before .if1 .left)) (c .before .if2 .left)
 
 pub after-line-spec : {M : Type 1} → statement M
 after-line-spec =
     tie.close
     (tie.spec
-    kind-of-requires
-    enum-told
+    (λ c κs. search needs)
+    (λ c. search needs)
     returns
-    says-all-requires
+    (λ c κs. search needs)
     returns-2
-    after-channel-requires
+    (λ c κs. search needs)
     returns-3
-    after-call-requires
+    (λ c κs. search needs)
     returns-4)

@@ -10,57 +10,6 @@ use Rattle.script_lines.proofs.lines.cue_line.Reads as cue-line-reads
 use Rattle.script_lines.proofs.lines.lent_line.Reads as lent-line-reads
 use Rattle.script_lines.proofs.lines.push_line.Reads as push-line-reads
 
-enum-told : tie.Need-enum-told
-enum-told c = search needs
-
-enum-told-2 : tie.Need-enum-told-2
-enum-told-2 c = search needs
-
-begin-line-requires : tie.Need-begin-line-requires
-begin-line-requires c κs = search needs
-
-enum-told-3 : tie.Need-enum-told-3
-enum-told-3 c = search needs
-
-cue-line-requires : tie.Need-cue-line-requires
-cue-line-requires c κs = search needs
-
-enum-told-4 : tie.Need-enum-told-4
-enum-told-4 c = search needs
-
-cue-line-requires-2 : tie.Need-cue-line-requires-2
-cue-line-requires-2 c κs = search needs
-
-enum-told-5 : tie.Need-enum-told-5
-enum-told-5 c = search needs
-
-cue-line-requires-3 : tie.Need-cue-line-requires-3
-cue-line-requires-3 c κs = search needs
-
-enum-told-6 : tie.Need-enum-told-6
-enum-told-6 c = search needs
-
-push-line-requires : tie.Need-push-line-requires
-push-line-requires c κs = search needs
-
-enum-told-7 : tie.Need-enum-told-7
-enum-told-7 c = search needs
-
-channel-line-requires : tie.Need-channel-line-requires
-channel-line-requires c κs = search needs
-
-enum-told-8 : tie.Need-enum-told-8
-enum-told-8 c = search needs
-
-enum-told-9 : tie.Need-enum-told-9
-enum-told-9 c = search needs
-
-lent-line-requires : tie.Need-lent-line-requires
-lent-line-requires c κs = search needs
-
-enum-told-10 : tie.Need-enum-told-10
-enum-told-10 c = search needs
-
 returns : tie.Need-returns
 unfolding saysAll
 returns c = rw (c .enum-told .given .1)
@@ -105,23 +54,23 @@ pub says-all-spec : {M : Type 1} → statement M
 says-all-spec =
     tie.close
     (tie.spec
-    enum-told
-    enum-told-2
-    begin-line-requires
-    enum-told-3
-    cue-line-requires
-    enum-told-4
-    cue-line-requires-2
-    enum-told-5
-    cue-line-requires-3
-    enum-told-6
-    push-line-requires
-    enum-told-7
-    channel-line-requires
-    enum-told-8
-    enum-told-9
-    lent-line-requires
-    enum-told-10
+    (λ c. search needs)
+    (λ c. search needs)
+    (λ c κs. search needs)
+    (λ c. search needs)
+    (λ c κs. search needs)
+    (λ c. search needs)
+    (λ c κs. search needs)
+    (λ c. search needs)
+    (λ c κs. search needs)
+    (λ c. search needs)
+    (λ c κs. search needs)
+    (λ c. search needs)
+    (λ c κs. search needs)
+    (λ c. search needs)
+    (λ c. search needs)
+    (λ c κs. search needs)
+    (λ c. search needs)
     returns
     returns-2
     returns-3

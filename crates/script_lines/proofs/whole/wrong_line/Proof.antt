@@ -21,26 +21,16 @@ abbrev μ-loop : tie.MeasureT-loop
 loop-holds : tie.Need-loop-holds Inv-loop μ-loop
 loop-holds c = walk-none _
 
-line-at-requires : tie.Need-line-at-requires Inv-loop μ-loop
-line-at-requires c κs = search needs
-
-after-line-requires : tie.Need-after-line-requires Inv-loop μ-loop
-after-line-requires c κs = search needs
-
 returns : tie.Need-returns Inv-loop μ-loop
-returns c = walk-wrong (c .before .before .before .before .before .loop .inv) (c .before .before .before .before .loop-test .taken) (c .before .before .before .line-at .ensures) (c .before .before .after-line .ensures) (not-true _ (c .if1 .taken))
-
-next-line-requires : tie.Need-next-line-requires Inv-loop μ-loop
-next-line-requires c κs = search needs
-
-add-number : tie.Need-add-number Inv-loop μ-loop
-add-number c = search needs
+returns c = walk-wrong (c .before .before .before .before .before .loop .inv) (c .before .before .before .before .loop-test .taken) (c .before .before .before .line-at .ensures)
+    (c .before .before .after-line .ensures) (not-true _ (c .if1 .taken))
 
 loop-less : tie.Need-loop-less Inv-loop μ-loop
 loop-less c = omega (arith, c .next-line .ensures .1 .1 (c .before .before .before .before .before .loop-test .taken))
 
 loop-again : tie.Need-loop-again Inv-loop μ-loop
-loop-again c = walk-more (c .before .before .before .before .before .before .loop .inv) (c .before .before .before .before .before .loop-test .taken) (c .before .before .before .before .line-at .ensures) (c .before .before .before .after-line .ensures) (not-false _ (c .before .if1 .left)) (c .next-line .ensures .0) (c .next-line .ensures .1)
+loop-again c = walk-more (c .before .before .before .before .before .before .loop .inv) (c .before .before .before .before .before .loop-test .taken)
+    (c .before .before .before .before .line-at .ensures) (c .before .before .before .after-line .ensures) (not-false _ (c .before .if1 .left)) (c .next-line .ensures .0) (c .next-line .ensures .1)
 
 returns-2 : tie.Need-returns-2 Inv-loop μ-loop
 returns-2 c = walk-unbegun (c .before .before .before .loop .inv) (c .before .before .loop-test .left) (not-true _ (c .if2 .taken))
@@ -58,11 +48,11 @@ wrong-line-spec =
     Inv-loop
     μ-loop
     loop-holds
-    line-at-requires
-    after-line-requires
+    (λ c κs. search needs)
+    (λ c κs. search needs)
     returns
-    next-line-requires
-    add-number
+    (λ c κs. search needs)
+    (λ c. search needs)
     loop-less
     loop-again
     returns-2

@@ -15,17 +15,18 @@ abbrev μ-loop : tie.MeasureT-loop
 loop-holds : tie.Need-loop-holds Inv-loop μ-loop
 loop-holds c = walked-none (search needs)
 
-next-line-requires : tie.Need-next-line-requires Inv-loop μ-loop
-next-line-requires c κs = search needs
-
 load-line-requires : tie.Need-load-line-requires Inv-loop μ-loop
-load-line-requires c κs = ((c .before .before .before .loop .inv .good, c .before .before .before .before .before .before .pre .1), (c .before .before .loop-test .taken, c .before .next-line .ensures .0))
+load-line-requires c κs = (
+  (c .before .before .before .loop .inv .good, c .before .before .before .before .before .before .pre .1),
+  (c .before .before .loop-test .taken, c .before .next-line .ensures .0),
+)
 
 loop-less : tie.Need-loop-less Inv-loop μ-loop
 loop-less c = omega (arith, c .before .before .before .before .next-line .ensures .1 .1 (c .before .before .before .before .before .loop-test .taken))
 
 loop-again : tie.Need-loop-again Inv-loop μ-loop
-loop-again c = walked-more (c .before .before .before .before .before .before .loop .inv) (search needs) (c .before .before .before .before .next-line .ensures .0) (c .before .before .load-line .ensures)
+loop-again c = walked-more (c .before .before .before .before .before .before .loop .inv) (search needs) (c .before .before .before .before .next-line .ensures .0)
+    (c .before .before .load-line .ensures)
 
 same-length : tie.Need-same-length Inv-loop μ-loop
 same-length c = c .before .loop .inv .long
@@ -40,7 +41,7 @@ load-lines-spec =
     Inv-loop
     μ-loop
     loop-holds
-    next-line-requires
+    (λ c κs. search needs)
     load-line-requires
     loop-less
     loop-again

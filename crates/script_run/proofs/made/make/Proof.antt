@@ -3,29 +3,8 @@ use Rattle.script_run.proofs.CallLaws.{makes-none, make-push, make-fini
 use Rattle.script_run.proofs.made.make.Statement.{statement}
 use Rattle.script_run.proofs.made.make.Tie as tie
 
-enum-told : tie.Need-enum-told
-enum-told c = search needs
-
-push-call-requires : tie.Need-push-call-requires
-push-call-requires c κs = search needs
-
-enum-told-2 : tie.Need-enum-told-2
-enum-told-2 c = search needs
-
-finish-logged-requires : tie.Need-finish-logged-requires
-finish-logged-requires c κs = search needs
-
-cue-call-requires : tie.Need-cue-call-requires
-cue-call-requires c κs = search needs
-
-same-length : tie.Need-same-length
-same-length c = search needs
-
 returns : tie.Need-returns
 returns c = make-push _ _ _ _ (c .before .before .before .before .enum-told .given .1) (c .before .before .push-call .ensures)
-
-same-length-2 : tie.Need-same-length-2
-same-length-2 c = search needs
 
 returns-2 : tie.Need-returns-2
 returns-2 c = make-finish _ _ _ _ (c .before .before .before .before .enum-told2 .given .1) (c .before .before .finish-logged .ensures)
@@ -40,14 +19,14 @@ pub make-spec : {M : Type 1} → statement M
 make-spec =
     tie.close
     (tie.spec
-    enum-told
-    push-call-requires
-    enum-told-2
-    finish-logged-requires
-    cue-call-requires
-    same-length
+    (λ c. search needs)
+    (λ c κs. search needs)
+    (λ c. search needs)
+    (λ c κs. search needs)
+    (λ c κs. search needs)
+    (λ c. search needs)
     returns
-    same-length-2
+    (λ c. search needs)
     returns-2
     returns-3
     returns-4)

@@ -5,35 +5,30 @@ use Rattle.script_run.proofs.CallLaws.{line-fits, push-made}
 use Rattle.script_run.proofs.made.push_call.Statement.{statement}
 use Rattle.script_run.proofs.made.push_call.Tie as tie
 
-push-line-requires : tie.Need-push-line-requires
-push-line-requires c κs = search needs
-
-sides-from-requires : tie.Need-sides-from-requires
-sides-from-requires c κs = search needs
-
-line-at-requires : tie.Need-line-at-requires
-line-at-requires c κs = search needs
-
-line-at-requires-2 : tie.Need-line-at-requires-2
-line-at-requires-2 c κs = search needs
-
 push-sides-requires : tie.Need-push-sides-requires
-push-sides-requires c κs = (c .before .before .before .before .before .before .before .before .pre .0, (line-fits (now (c .before .before .before .before .before .before .before .before .args .s)) (c .before .before .before .sides-from .result .left) (c .before .before .line-at .ensures) (c .before .before .before .before .before .before .before .before .pre .1), line-fits (now (c .before .before .before .before .before .before .before .before .args .s)) (c .before .before .before .sides-from .result .right) (c .before .line-at2 .ensures) (c .before .before .before .before .before .before .before .before .pre .1)))
-
-same-length : tie.Need-same-length
-same-length c = search needs
+push-sides-requires c κs = (
+  c .before .before .before .before .before .before .before .before .pre .0,
+  (
+    line-fits (now (c .before .before .before .before .before .before .before .before .args .s)) (c .before .before .before .sides-from .result .left) (c .before .before .line-at .ensures)
+        (c .before .before .before .before .before .before .before .before .pre .1),
+    line-fits (now (c .before .before .before .before .before .before .before .before .args .s)) (c .before .before .before .sides-from .result .right) (c .before .line-at2 .ensures)
+        (c .before .before .before .before .before .before .before .before .pre .1),
+  ),
+)
 
 returns : tie.Need-returns
-returns c = push-made _ _ _ _ _ (c .before .before .before .before .before .before .before .push-line .ensures) (c .before .before .before .before .before .line-at .ensures ∙ c .before .before .before .before .before .before .sides-from .ensures .0) (c .before .before .before .before .line-at2 .ensures ∙ c .before .before .before .before .before .before .sides-from .ensures .1) (c .before .before .push-sides .ensures)
+returns c = push-made _ _ _ _ _ (c .before .before .before .before .before .before .before .push-line .ensures)
+    (c .before .before .before .before .before .line-at .ensures ∙ c .before .before .before .before .before .before .sides-from .ensures .0)
+    (c .before .before .before .before .line-at2 .ensures ∙ c .before .before .before .before .before .before .sides-from .ensures .1) (c .before .before .push-sides .ensures)
 
 pub push-call-spec : {M : Type 1} → statement M
 push-call-spec =
     tie.close
     (tie.spec
-    push-line-requires
-    sides-from-requires
-    line-at-requires
-    line-at-requires-2
+    (λ c κs. search needs)
+    (λ c κs. search needs)
+    (λ c κs. search needs)
+    (λ c κs. search needs)
     push-sides-requires
-    same-length
+    (λ c. search needs)
     returns)

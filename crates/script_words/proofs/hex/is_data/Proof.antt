@@ -10,18 +10,12 @@ use Rattle.script_words.proofs.hex.two_by_two.Reads as two-by-two-reads
 returns : tie.Need-returns
 returns c = no-data _ (search needs)
 
-shared-slice-read-result : tie.Need-shared-slice-read-result
-shared-slice-read-result c = search needs
-
 returns-2 : tie.Need-returns-2
 returns-2 c = one-byte _ (search needs)
-
-two-by-two-requires : tie.Need-two-by-two-requires
-two-by-two-requires c κs = search needs
 
 returns-3 : tie.Need-returns-3
 returns-3 c = c .two-by-two .ensures ∙ some-bytes _ (c .before .before .if1 .left) (c .before .if2 .left)
 
 pub is-data-spec : {M : Type 1} → statement M
 is-data-spec =
-    tie.close (tie.spec returns shared-slice-read-result returns-2 two-by-two-requires returns-3)
+    tie.close (tie.spec returns (λ c. search needs) returns-2 (λ c κs. search needs) returns-3)

@@ -19,41 +19,16 @@ returns c = odd _ (search needs)
 loop-holds : tie.Need-loop-holds Inv-loop μ-loop
 loop-holds c = pairs-none _ (c .if1 .left)
 
-mul-is-digit : tie.Need-mul-is-digit Inv-loop μ-loop
-mul-is-digit c = search needs
-
-shared-slice-read-is-digit : tie.Need-shared-slice-read-is-digit Inv-loop μ-loop
-shared-slice-read-is-digit c = search needs
-
-is-digit-requires : tie.Need-is-digit-requires Inv-loop μ-loop
-is-digit-requires c κs = search needs
-
 returns-2 : tie.Need-returns-2 Inv-loop μ-loop
 returns-2 c = first-bad (c .before .before .before .before .loop .inv) (search needs) (c .before .is-digit .ensures) (c .if2 .taken)
 
-mul-is-digit-2 : tie.Need-mul-is-digit-2 Inv-loop μ-loop
-mul-is-digit-2 c = search needs
-
-add-is-digit : tie.Need-add-is-digit Inv-loop μ-loop
-add-is-digit c = search needs
-
-shared-slice-read-is-digit-2 : tie.Need-shared-slice-read-is-digit-2 Inv-loop μ-loop
-shared-slice-read-is-digit-2 c = search needs
-
-is-digit-requires-2 : tie.Need-is-digit-requires-2 Inv-loop μ-loop
-is-digit-requires-2 c κs = search needs
-
 returns-3 : tie.Need-returns-3 Inv-loop μ-loop
-returns-3 c = second-bad (c .before .before .before .before .before .before .before .loop .inv) (search needs) (c .before .before .before .before .is-digit .ensures) (c .before .before .before .if2 .left) (c .before .is-digit2 .ensures) (c .if3 .taken)
-
-add-j : tie.Need-add-j Inv-loop μ-loop
-add-j c = search needs
-
-loop-less : tie.Need-loop-less Inv-loop μ-loop
-loop-less c = search needs
+returns-3 c = second-bad (c .before .before .before .before .before .before .before .loop .inv) (search needs) (c .before .before .before .before .is-digit .ensures)
+    (c .before .before .before .if2 .left) (c .before .is-digit2 .ensures) (c .if3 .taken)
 
 loop-again : tie.Need-loop-again Inv-loop μ-loop
-loop-again c = pairs-more (c .before .before .before .before .before .before .before .loop .inv) (search needs) (c .before .before .before .before .is-digit .ensures) (c .before .before .before .if2 .left) (c .before .is-digit2 .ensures) (c .if3 .left)
+loop-again c = pairs-more (c .before .before .before .before .before .before .before .loop .inv) (search needs) (c .before .before .before .before .is-digit .ensures)
+    (c .before .before .before .if2 .left) (c .before .is-digit2 .ensures) (c .if3 .left)
 
 returns-4 : tie.Need-returns-4 Inv-loop μ-loop
 returns-4 c = pairs-all (c .before .loop .inv) (search needs)
@@ -66,16 +41,16 @@ two-by-two-spec =
     μ-loop
     returns
     loop-holds
-    mul-is-digit
-    shared-slice-read-is-digit
-    is-digit-requires
+    (λ c. search needs)
+    (λ c. search needs)
+    (λ c κs. search needs)
     returns-2
-    mul-is-digit-2
-    add-is-digit
-    shared-slice-read-is-digit-2
-    is-digit-requires-2
+    (λ c. search needs)
+    (λ c. search needs)
+    (λ c. search needs)
+    (λ c κs. search needs)
     returns-3
-    add-j
-    loop-less
+    (λ c. search needs)
+    (λ c. search needs)
     loop-again
     returns-4)

@@ -8,14 +8,8 @@ use Rattle.script_words.proofs.numbers.negative.Lts as lts
 returns : tie.Need-returns
 returns c = minus-none _ (search needs)
 
-sub-t4 : tie.Need-sub-t4
-sub-t4 c = search needs
-
-cast-t5 : tie.Need-cast-t5
-cast-t5 c = search needs
-
 returns-2 : tie.Need-returns-2
 returns-2 c = minus-some _ (c .before .if1 .left) (search needs)
 
 pub negative-spec : {M : Type 1} → statement M
-negative-spec = tie.close (tie.spec returns sub-t4 cast-t5 returns-2)
+negative-spec = tie.close (tie.spec returns (λ c. search needs) (λ c. search needs) returns-2)

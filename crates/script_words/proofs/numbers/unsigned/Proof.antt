@@ -15,56 +15,23 @@ Inv-loop word max value₀ i₀ value i = Reading max word value i
 abbrev μ-loop : tie.MeasureT-loop
 μ-loop word max value₀ i₀ value i = length word - i
 
-bad-requires : tie.Need-bad-requires Inv-loop μ-loop
-bad-requires c κs = search needs
-
 returns : tie.Need-returns Inv-loop μ-loop
 returns c = no-word _ (c .bad .ensures) (search needs)
 
 loop-holds : tie.Need-loop-holds Inv-loop μ-loop
 loop-holds c = reading-none _ _ (c .if1 .left)
 
-shared-slice-read-byte : tie.Need-shared-slice-read-byte Inv-loop μ-loop
-shared-slice-read-byte c = search needs
-
-bad-requires-2 : tie.Need-bad-requires-2 Inv-loop μ-loop
-bad-requires-2 c κs = search needs
-
 returns-2 : tie.Need-returns-2 Inv-loop μ-loop
 returns-2 c = low (c .before .before .before .before .loop .inv) (search needs) (c .bad2 .ensures) (search needs)
-
-bad-requires-3 : tie.Need-bad-requires-3 Inv-loop μ-loop
-bad-requires-3 c κs = search needs
 
 returns-3 : tie.Need-returns-3 Inv-loop μ-loop
 returns-3 c = high (c .before .before .before .before .before .loop .inv) (search needs) (c .bad3 .ensures) (search needs) (search needs)
 
-cast-digit : tie.Need-cast-digit Inv-loop μ-loop
-cast-digit c = omega arith
-
-bad-requires-4 : tie.Need-bad-requires-4 Inv-loop μ-loop
-bad-requires-4 c κs = search needs
-
 returns-4 : tie.Need-returns-4 Inv-loop μ-loop
 returns-4 c = over (c .before .before .before .before .before .before .loop .inv) (search needs) (c .bad4 .ensures) (search needs) (search needs) (omega arith)
 
-bad-requires-5 : tie.Need-bad-requires-5 Inv-loop μ-loop
-bad-requires-5 c κs = search needs
-
 returns-5 : tie.Need-returns-5 Inv-loop μ-loop
 returns-5 c = over (c .before .before .before .before .before .before .before .loop .inv) (search needs) (c .bad5 .ensures) (search needs) (search needs) (omega arith)
-
-mul-value : tie.Need-mul-value Inv-loop μ-loop
-mul-value c = omega arith
-
-add-value : tie.Need-add-value Inv-loop μ-loop
-add-value c = omega arith
-
-add-i : tie.Need-add-i Inv-loop μ-loop
-add-i c = search needs
-
-loop-less : tie.Need-loop-less Inv-loop μ-loop
-loop-less c = search needs
 
 loop-again : tie.Need-loop-again Inv-loop μ-loop
 loop-again c = more (c .before .before .before .before .before .before .loop .inv) (search needs) (search needs) (search needs) (omega arith)
@@ -78,22 +45,22 @@ unsigned-spec =
     (tie.spec
     Inv-loop
     μ-loop
-    bad-requires
+    (λ c κs. search needs)
     returns
     loop-holds
-    shared-slice-read-byte
-    bad-requires-2
+    (λ c. search needs)
+    (λ c κs. search needs)
     returns-2
-    bad-requires-3
+    (λ c κs. search needs)
     returns-3
-    cast-digit
-    bad-requires-4
+    (λ c. omega arith)
+    (λ c κs. search needs)
     returns-4
-    bad-requires-5
+    (λ c κs. search needs)
     returns-5
-    mul-value
-    add-value
-    add-i
-    loop-less
+    (λ c. omega arith)
+    (λ c. omega arith)
+    (λ c. search needs)
+    (λ c. search needs)
     loop-again
     returns-6)

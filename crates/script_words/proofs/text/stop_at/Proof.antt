@@ -15,23 +15,13 @@ abbrev μ-loop : tie.MeasureT-loop
 loop-holds : tie.Need-loop-holds Inv-loop μ-loop
 loop-holds c = scan-none _ _ _ (c .before .pre)
 
-shared-slice-read-is-blank : tie.Need-shared-slice-read-is-blank Inv-loop μ-loop
-shared-slice-read-is-blank c = search needs
-
-is-blank-requires : tie.Need-is-blank-requires Inv-loop μ-loop
-is-blank-requires c κs = search needs
-
 returns : tie.Need-returns Inv-loop μ-loop
-returns c = scan-found (c .before .before .before .before .loop .inv) (search needs) (stops-is (c .before .before .before .before .before .before .args .blank) (c .before .is-blank .ensures) (c .if1 .taken))
-
-add-i : tie.Need-add-i Inv-loop μ-loop
-add-i c = search needs
-
-loop-less : tie.Need-loop-less Inv-loop μ-loop
-loop-less c = search needs
+returns c = scan-found (c .before .before .before .before .loop .inv) (search needs)
+    (stops-is (c .before .before .before .before .before .before .args .blank) (c .before .is-blank .ensures) (c .if1 .taken))
 
 loop-again : tie.Need-loop-again Inv-loop μ-loop
-loop-again c = scan-more (c .before .before .before .before .loop .inv) (search needs) (stops-is (c .before .before .before .before .before .before .args .blank) (c .before .is-blank .ensures) (c .if1 .left))
+loop-again c = scan-more (c .before .before .before .before .loop .inv) (search needs)
+    (stops-is (c .before .before .before .before .before .before .args .blank) (c .before .is-blank .ensures) (c .if1 .left))
 
 returns-2 : tie.Need-returns-2 Inv-loop μ-loop
 returns-2 c = scan-all (c .before .loop .inv) (search needs)
@@ -43,10 +33,10 @@ stop-at-spec =
     Inv-loop
     μ-loop
     loop-holds
-    shared-slice-read-is-blank
-    is-blank-requires
+    (λ c. search needs)
+    (λ c κs. search needs)
     returns
-    add-i
-    loop-less
+    (λ c. search needs)
+    (λ c. search needs)
     loop-again
     returns-2)

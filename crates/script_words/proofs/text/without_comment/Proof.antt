@@ -5,9 +5,6 @@ use borrow.Author.Needs.{needs}
 use Rattle.script_words.proofs.text.without_comment.Statement.{statement}
 use Rattle.script_words.proofs.text.without_comment.Tie as tie
 
-find-requires : tie.Need-find-requires
-find-requires c κs = search needs
-
 slice-aggregate-result : tie.Need-slice-aggregate-result
 slice-aggregate-result c = sym (length-take-le _ _ (c .before .find .ensures .1))
 
@@ -15,4 +12,4 @@ returns : tie.Need-returns
 returns c = comment-at _ (c .before .find .ensures .0)
 
 pub without-comment-spec : {M : Type 1} → statement M
-without-comment-spec = tie.close (tie.spec find-requires slice-aggregate-result returns)
+without-comment-spec = tie.close (tie.spec (λ c κs. search needs) slice-aggregate-result returns)

@@ -13,41 +13,11 @@ abbrev μ-loop : tie.MeasureT-loop
 loop-holds : tie.Need-loop-holds Inv-loop μ-loop
 loop-holds c = pass-none _ _
 
-slice-aggregate-result : tie.Need-slice-aggregate-result Inv-loop μ-loop
-slice-aggregate-result c = search needs
-
 returns : tie.Need-returns Inv-loop μ-loop
 returns c = pass-end (c .before .before .before .loop .inv) (c .before .if1 .taken)
 
-stop-at-requires : tie.Need-stop-at-requires Inv-loop μ-loop
-stop-at-requires c κs = search needs
-
-stop-at-requires-2 : tie.Need-stop-at-requires-2 Inv-loop μ-loop
-stop-at-requires-2 c κs = search needs
-
-add-k : tie.Need-add-k Inv-loop μ-loop
-add-k c = search needs
-
-loop-less : tie.Need-loop-less Inv-loop μ-loop
-loop-less c = search needs
-
 loop-again : tie.Need-loop-again Inv-loop μ-loop
 loop-again c = pass-more (c .before .before .before .before .loop .inv) (c .before .stop-at .ensures) (c .stop-at2 .ensures) (search needs)
-
-stop-at-requires-3 : tie.Need-stop-at-requires-3 Inv-loop μ-loop
-stop-at-requires-3 c κs = search needs
-
-stop-at-requires-4 : tie.Need-stop-at-requires-4 Inv-loop μ-loop
-stop-at-requires-4 c κs = search needs
-
-sub-result : tie.Need-sub-result Inv-loop μ-loop
-sub-result c = search needs
-
-part-result-start : tie.Need-part-result-start Inv-loop μ-loop
-part-result-start c = search needs
-
-part-result-end : tie.Need-part-result-end Inv-loop μ-loop
-part-result-end c = search needs
 
 returns-2 : tie.Need-returns-2 Inv-loop μ-loop
 returns-2 c = pass-all (c .before .before .before .before .loop .inv) (c .before .before .stop-at3 .ensures) (c .before .stop-at4 .ensures) (search needs)
@@ -59,16 +29,16 @@ word-spec =
     Inv-loop
     μ-loop
     loop-holds
-    slice-aggregate-result
+    (λ c. search needs)
     returns
-    stop-at-requires
-    stop-at-requires-2
-    add-k
-    loop-less
+    (λ c κs. search needs)
+    (λ c κs. search needs)
+    (λ c. search needs)
+    (λ c. search needs)
     loop-again
-    stop-at-requires-3
-    stop-at-requires-4
-    sub-result
-    part-result-start
-    part-result-end
+    (λ c κs. search needs)
+    (λ c κs. search needs)
+    (λ c. search needs)
+    (λ c. search needs)
+    (λ c. search needs)
     returns-2)

@@ -36,7 +36,7 @@ use Rattle.layout_read.proofs.NumberLaws.{word-in}
 use Rattle.c_opened.specs.KeptReader.{loopNumber, loopOf, fileKept, offsetsKept, openedParts, openedBytes, offsetsIn, readerIn, ReadBack, openedSize, offsetsAt}
 use Rattle.c_opened.proofs.KeptReads.{first-offset, offsets-long, second-lesser, part-made}
 use Rattle.layout.specs.Refusals.{blockLimit}
-use Rattle.layout.proofs.ListLaws.{zeros-at}
+use Rattle.layout.proofs.ListLaws.{zeros-at, all-snoc}
 
 -- ---- Lengths
 
@@ -118,10 +118,6 @@ record Walk (os : List ℕ) (start : LoopStart) : Type 0 where
   small : All Small os
   loop : (i : ℕ) → start ≡ LoopStart.Block i → i < length os
 
-all-snoc : (xs : List ℕ) (x : ℕ) → All Small xs → Small x → All Small (xs ++ (x ∷ []))
-all-snoc [] x f h = All.more h All.none
-all-snoc (y ∷ ys) x (All.more g f) h = All.more g (all-snoc ys x f h)
-
 walk-ended : {here os : List ℕ} {l start : LoopStart} → All Small here → ((i : ℕ) → l ≡ LoopStart.Block i → i < length here) → Walked.walked here l ≡ Walked.walked os start → Walk os start
 walk-ended {here} {os} {l} {start} f g e =
     let x : here ≡ os = cc in
@@ -141,7 +137,7 @@ walk-is (suc n) s seen at os start b f h e =
     (λ v t.
     let here = seen ++ (at ∷ []) in
     let next = v .«next_offset» in
-    let g = all-snoc seen at f h in
+    let g = all-snoc f h in
     let e1 = rw t at e in
     by-cases (eqb next 4294967295)
     (λ u. walk-ended g (λ i z. absurd (let q : _≡_ {A = ℕ} 0 1 = cc in omega arith)) (rw u at e1))

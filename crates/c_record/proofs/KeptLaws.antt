@@ -8,7 +8,7 @@ use borrow.Author.Tests.{eq-eqb, ne-eqb, le-leb, lt-leb, leb-true, ltb-true}
 use lib.ListN.{length}
 use lib.Dec.{ltb, leb}
 use Rattle.layout.specs.Choice.{_and_}
-use Rattle.layout.proofs.Cases.{by-cases, apart}
+use Rattle.layout.proofs.Cases.{by-cases, apart, and-true}
 use Rattle.writer.specs.Calls.{blank, Good}
 use Rattle.writer.specs.Push.{loopFrom, loopsHere}
 use Rattle.writer.proofs.GoodLaws.{blank-good}
@@ -146,10 +146,6 @@ module _ (kept : List ℕ) where
 
 -- ---- The premise of the loading calls
 
-both : (a b : Bool) → a and b ≡ true → (a ≡ true) × (b ≡ true)
-both true b h = (refl, h)
-both false b h = apart (sym h)
-
 marked-last : (n : ℕ) (l f : Bool) → marksGood n l f ≡ true → (l ≡ true → 0 < n) × (f ≡ true → l ≡ true)
 unfolding marksGood
 marked-last n true f h = (λ e. ltb-true 0 n h, λ e. refl)
@@ -162,16 +158,16 @@ within-is l o h n e = leb-true n o (rw e at h)
 sensible-good : (s : Fields) (kept : List ℕ) → sensible s ≡ true → Good (writerOf (tableIn kept cuesAt (s .count)) s)
 unfolding sensible placesGood sumsGood
 sensible-good s kept h =
-    let h₁ = both _ _ h in
-    let p₁ = both _ _ (h₁ .0) in
-    let p₂ = both _ _ (p₁ .1) in
-    let p₃ = both _ _ (p₂ .1) in
-    let p₄ = both _ _ (p₃ .1) in
-    let h₂ = both _ _ (h₁ .1) in
-    let q₁ = both _ _ (h₂ .0) in
-    let q₂ = both _ _ (q₁ .1) in
-    let q₃ = both _ _ (q₂ .1) in
-    let h₃ = both _ _ (h₂ .1) in
+    let h₁ = and-true _ _ h in
+    let p₁ = and-true _ _ (h₁ .0) in
+    let p₂ = and-true _ _ (p₁ .1) in
+    let p₃ = and-true _ _ (p₂ .1) in
+    let p₄ = and-true _ _ (p₃ .1) in
+    let h₂ = and-true _ _ (h₁ .1) in
+    let q₁ = and-true _ _ (h₂ .0) in
+    let q₂ = and-true _ _ (q₁ .1) in
+    let q₃ = and-true _ _ (q₂ .1) in
+    let h₃ = and-true _ _ (h₂ .1) in
     let m = marked-last (s .blocks) (s .last) (s .finished) (h₃ .0) in
     record {
       small = leb-true _ _ (p₁ .0);
@@ -198,7 +194,7 @@ pub kept-good : (kept : List ℕ) → Good (writerIn kept)
 unfolding streamIn
 kept-good kept =
     by-cases (leb loaderSize (length kept) and sensible (fieldsIn kept))
-    (λ q. rw q (sensible-good (fieldsIn kept) kept (both (leb loaderSize (length kept)) (sensible (fieldsIn kept)) q .1)))
+    (λ q. rw q (sensible-good (fieldsIn kept) kept (and-true (leb loaderSize (length kept)) (sensible (fieldsIn kept)) q .1)))
     (λ q. rw q (blank-kept kept))
 
 pub stream-few : (kept : List ℕ) → streamIn kept .count ≤ cueLimit

@@ -7,6 +7,7 @@ use native.Mathlib.Numerals.{add-one}
 use lib.ListN.{length, getD, take, replicate, length-append}
 use lib.Seq.{take-suc, length-take-le}
 use Rattle.layout.specs.Lists.{All}
+use Rattle.layout.proofs.ListLaws.{all-snoc}
 use Rattle.layout.specs.Puts.{putAt}
 use Rattle.layout.specs.Records.{be32}
 use Rattle.layout.proofs.Lengths.{be32-length}
@@ -60,10 +61,6 @@ pub entries-length : (t : List Cue) (n : ℕ) → n ≤ length t → length (ent
 unfolding entriesBytes
 entries-length t n h = flatMap-length (take n t) ∙ ap (λ (m : ℕ). 24 * m) (length-take-le n t h)
 
-all-snoc : (cs : List Cue) (c : Cue) → All EntryFits cs → EntryFits c → All EntryFits (cs ++ (c ∷ []))
-all-snoc [] c f h = All.more h All.none
-all-snoc (d ∷ ds) c (All.more g f) h = All.more g (all-snoc ds c f h)
-
 -- of n cues the first i are put
 pub record Entries (l : List ℕ) (at : ℕ) (t : List Cue) (n : ℕ) (b : List ℕ) (i : ℕ) : Type 0 where
   pub few : i ≤ n
@@ -88,7 +85,7 @@ entries-more l at t n b i b′ z len most room inv lt e f =
       few = omega arith;
       long = ap length e ∙ putAt-length b _ _ ∙ inv .long;
       is = put-then p (entryBytes (getD t i z)) (entry-length _) e refl (omega arith) .is ∙ ap (putAt l at) (sym q);
-      fit = rw (← u) (all-snoc (take i t) (getD t i z) (inv .fit) f);
+      fit = rw (← u) (all-snoc (inv .fit) f);
     }
 
 pub entries-all : (l : List ℕ) (at : ℕ) (t : List Cue) (n : ℕ) (b : List ℕ) (i : ℕ) → Entries l at t n b i → n ≤ i

@@ -12,7 +12,9 @@ use lib.Seq.{take-at, drop-length}
 use lib.Dec.{eqb}
 use borrow.Author.Tests.{eqb-true, eqb-false}
 use Rattle.layout.specs.Puts.{putAt}
+use Rattle.layout.specs.Lists.{same}
 use Rattle.layout.proofs.Cases.{by-cases}
+use Rattle.layout.proofs.ListLaws.{same-equal, same-not}
 use Rattle.layout.proofs.PutLaws.{putAt-in, putAt-length}
 use Rattle.writer.specs.WritesAndCuttingRule.{Write, writesIn}
 use Rattle.power_cut_moments.specs.Moments.{slotAt, nextByte}
@@ -75,8 +77,9 @@ module _ {start first : List ℕ} {ws : List Write} {from total : ℕ} {slot : L
     step : (s : List ℕ) → slot ≡ slotAt s ws m → after ≡ slotAt s ws (m + 1)
     step s e = byte ∙ rw e (next-slot s ws m)
 
-    pub going-more : {b : Bool} → b ≡ true → (b ≡ true → listing first ≡ listing after) → Going start first ws from total after (m + 1)
-    going-more y alike =
+    pub going-more : {b : Bool} → b ≡ true → b ≡ same (listing first) (listing after) → Going start first ws from total after (m + 1)
+    going-more y q =
+        let alike = same-equal (listing first) (listing after) (sym q ∙ y) in
         record {
           long = n ∙ g .long;
           low = omega (arith, g .low);
@@ -84,17 +87,17 @@ module _ {start first : List ℕ} {ws : List Write} {from total : ℕ} {slot : L
           here = λ s e. step s (g .here s e);
           same = λ s e f k a c.
               by-cases (eqb k (m + 1))
-              (λ t. let q = eqb-true k (m + 1) t in rw (q, ← step s (g .here s e)) (sym (alike y)))
-              (λ t. let q = eqb-false k (m + 1) t in g .same s e f k a (omega arith));
+              (λ t. let i = eqb-true k (m + 1) t in rw (i, ← step s (g .here s e)) (sym alike))
+              (λ t. let i = eqb-false k (m + 1) t in g .same s e f k a (omega arith));
         }
 
-    pub run-other : {b : Bool} → b ≡ false → (b ≡ false → listing first ≡ listing after → ⊥) → (s : List ℕ) → start ≡ slotAt s ws from → first ≡ start
+    pub run-other : {b : Bool} → b ≡ false → b ≡ same (listing first) (listing after) → (s : List ℕ) → start ≡ slotAt s ws from → first ≡ start
         → RunEnds s ws from total (listing first) (m + 1) after
-    run-other y unlike s e f =
+    run-other y q s e f =
         record {
           later = omega (arith, g .low);
           same = λ k a c. g .same s e f k a (omega arith);
-          ends = inr (omega arith, (step s (g .here s e), λ q. unlike y (sym q)));
+          ends = inr (omega arith, (step s (g .here s e), λ i. same-not (sym q ∙ y) (sym i)));
         }
 
 -- The writes that are logged are those of the first places.

@@ -1,1 +1,2 @@
 pub mod Moments
+pub mod Answers

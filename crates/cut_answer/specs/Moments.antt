@@ -4,6 +4,7 @@ use mathlib.Core.Path.{_≡_}
 use mathlib.Core.List.{List}
 use mathlib.Core.Logic.{_⊎_}
 use lib.ListN.{length}
+use Rattle.layout.specs.Lists.{sum}
 use Rattle.writer.specs.WritesAndCuttingRule.{Write}
 use Rattle.power_cut_moments.specs.Moments.{slotAt}
 use Rattle.key_listing.specs.MarkingKey.{listing}
@@ -12,6 +13,10 @@ use Rattle.script_run.specs.Script.{scriptWrites}
 -- "A moment is the number of bytes of all writes, in order, that had reached the slot when the power failed": the slot then
 abbrev pub slotOf : (earlier script : List ℕ) → (moment : ℕ) → List ℕ
 slotOf e s m = slotAt e (scriptWrites (length e) s) m
+
+-- "at the last moment all have": the number of bytes of all writes
+unfoldable pub lastMoment : (slot : ℕ) → (script : List ℕ) → ℕ
+lastMoment n s = sum (λ w. length (w .bytes)) (scriptWrites n s)
 
 -- "for each run of moments with the same listing": from the first moment to the last these lines are listed
 unfoldable pub MomentRun : (earlier script : List ℕ) → (first last : ℕ) → (lines : List ℕ) → Type 0

@@ -1,12 +1,12 @@
 // Files by name.
 use io::read_full;
 ghost use mathlib.Core.Path.{_≡_};
-ghost use lib.ListN.{length};
+ghost use lib.ListN.{replicate};
 ghost use Rattle.io.specs.Counts.{Counts};
 
 // A byte more than the longest script has, by which a longer one is seen.
 pub fn script_room() -> [u8; 1048577]
-    ensures { λ r. ⌜ 1048577 ≡ length r ⌝ }
+    ensures { λ r. ⌜ r ≡ replicate 1048577 0 ⌝ }
 {
     [0; 1048577]
 }

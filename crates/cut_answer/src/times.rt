@@ -1,7 +1,7 @@
 // The runs of moments with the same listing.
 use cut_report::print_line;
+use cut_report::time_line;
 use cut_write_log::WriteLog;
-use key_lines::Column;
 use key_print::print_listing;
 use key_print::same_listing;
 use key_print::slot_room;
@@ -11,6 +11,7 @@ ghost use mathlib.Core.Path.{_≡_};
 ghost use mathlib.Core.List.{List};
 ghost use Prim.Native.Nat.{ℕ, _≤_};
 ghost use lib.ListN.{length};
+ghost use Rattle.layout.specs.Refusals.{keyLimit};
 ghost use Rattle.power_cut_moments.specs.Moments.{slotAt};
 ghost use Rattle.key_listing.specs.MarkingKey.{listing};
 ghost use Rattle.cut_write_log.specs.WriteLog.{loggedWrites, Listed};
@@ -21,14 +22,7 @@ ghost use Rattle.cut_answer.specs.Moments.{MomentRun, RunEnds};
 fn print_run(fd: i32, earlier: &[u8], text: &[u8], from: usize, last: usize, slot: &[u8])
     requires { ⌜ MomentRun (now earlier) (now text) from last (listing (now slot)) ⌝ }
 {
-    let first = Column::Number(from as u64);
-    print_line(
-        fd,
-        b"TIME",
-        first,
-        Column::Number(last as u64),
-        Column::Nothing,
-    );
+    print_line(fd, time_line(from, last));
     print_listing(fd, slot);
 }
 
@@ -85,13 +79,10 @@ pub(crate) fn show_times(
     logged: &[u8],
 )
     requires { ⌜ Listed j (now logged) × (loggedWrites j (now logged) ≡ scriptWrites (length (now earlier)) (now text)) ⌝ }
-    requires { ⌜ now slot ≡ now earlier ⌝ }
+    requires { ⌜ (now slot ≡ now earlier) × (length (now earlier) ≤ keyLimit) ⌝ }
 {
     let n = earlier.len();
     let mut first = slot_room();
-    if n > first.len() {
-        return;
-    }
     put_bytes(&mut first, 0, earlier);
     show_runs(fd, earlier, text, slot, &mut first[..n], j, logged);
 }

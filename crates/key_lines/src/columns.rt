@@ -4,7 +4,6 @@ use layout::fields::inside;
 use layout_put::put_bytes;
 use layout_put::put_fill;
 ghost use mathlib.Core.Path.{_≡_};
-ghost use lib.ListN.{replicate};
 ghost use Rattle.layout.specs.Puts.{putAt};
 ghost use Rattle.key_lines.specs.Lines.{column, FieldPut};
 

@@ -1,3 +1,4 @@
 pub mod ListingLaws
 pub mod LineLaws
 pub mod StartLaws
+pub mod ListingSize

@@ -6,7 +6,7 @@ use lib.Dec.{ltb}
 use Rattle.layout.specs.Choice.{pick}
 use Rattle.layout.specs.Records.{on, readHeader, lengthIn}
 use Rattle.reader.specs.OpeningAndReading.{Opened, refused, opened, opening, channelIn, offsetsFrom}
-use Rattle.reader.specs.CuesReadBack.{CueAnswer, firstCursor, CueStep, cueStep}
+use Rattle.reader.specs.CuesReadBack.{CueAnswer, firstCursor, cueStep}
 use Rattle.reader.specs.declared.HpsReader.{HpsReader}
 use Rattle.reader.specs.declared.CueIterator.{CueIterator}
 use Rattle.key_listing.specs.declared.Stage.{Stage}

@@ -5,7 +5,7 @@ use mathlib.Core.List.{List, _++_, append-assoc, append-cancel-left}
 use native.Mathlib.Omega.{arith}
 use native.Mathlib.Numerals.{add-one}
 use lib.ListN.{length, take, drop, getD, length-append, length-take, length-drop, List·getD-append}
-use lib.Seq.{length-take-le, take-at, take-add, take-take, take-suc, drop-drop}
+use lib.Seq.{length-take-le, take-at, take-add, take-take, take-suc, drop-drop, drop-append-seam}
 use lib.Dec.{eqb}
 use borrow.Author.Tests.{eqb-true, eqb-false}
 use Rattle.layout.proofs.Cases.{by-cases}
@@ -42,8 +42,31 @@ module _ {s : List ℕ} {r : HpsReader} {stage : Stage} {before after : List ℕ
       let h : 0 + length lines ≤ length before = omega (arith, f .long, filled-fits f) in
       rw (f .put, putAt-in before 0 lines h) (take-at lines _ (x .length) (sym (f .long)))
 
-  pub lines-there : (n : ℕ) → length before ≡ n → take (x .length) after ≡ linesFitting n (linesFrom s r stage)
-  lines-there n e = rw (← e) first-lines
+  -- where the listing from some byte on is the one from this stage on, the buffer has its next bytes
+  module _ (all : List ℕ) (from : ℕ) (e : drop from all ≡ listingFrom s r stage) where
+    pub next-bytes : take (x .length) after ≡ take (x .length) (drop from all)
+    next-bytes = first-lines ∙ sym (rw (e, filled-rest f) (take-at lines _ (x .length) (sym (f .long))))
+
+    -- and after them stands the one from the next stage on
+    pub next-from : drop (from + x .length) all ≡ listingFrom s r (x .stage)
+    next-from =
+        sym (drop-drop (x .length) from all) ∙ rw (e, filled-rest f, f .long) (drop-append-seam lines (listingFrom s r (x .stage)))
+
+    pub next-inside : from ≤ length all → from + x .length ≤ length all
+    next-inside l =
+        omega (arith, f .long, simp length-drop at (ap length e), ap length (filled-rest f), length-append lines (listingFrom s r (x .stage)))
+
+    -- nothing was filled: all is printed
+    pub all-printed : 60 ≤ length before → x .length ≡ 0 → from ≤ length all → from ≡ length all
+    all-printed b z l =
+        omega (
+          arith,
+          f .long,
+          simp length-drop at (ap length e),
+          ap length (filled-rest f),
+          length-append lines (listingFrom s r (x .stage)),
+          ap length (filled-none f b z),
+        )
 
   -- less is still to be listed
   pub less-listed : (x .length ≡ 0 → ⊥) → length (listingFrom s r (x .stage)) < length (listingFrom s r stage)

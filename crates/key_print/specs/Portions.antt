@@ -1,11 +1,18 @@
--- A portion of a listing in a buffer, and what is still to be listed from it on.
+-- What is printed of a listing; a portion of one in a buffer, and what is still to be listed from it on.
 use Prim.Native.Nat.{ℕ, _-_, _<_, _≤_}
 use mathlib.Core.Path.{_≡_}
+use mathlib.Core.Bool.{true}
 use mathlib.Core.List.{List, [], _++_}
 use lib.ListN.{length, take, drop, getD}
 use Rattle.reader.specs.declared.HpsReader.{HpsReader}
 use Rattle.key_listing.specs.MarkingKey.{listingFrom}
 use Rattle.key_print.specs.declared.Portion.{Portion}
+use Rattle.key_print.specs.declared.Printed.{Printed}
+
+-- No more than the listing was handed to the system, and where it took all, the whole listing.
+pub record PrintedOf (listing : List ℕ) (p : Printed) : Type 0 where
+  pub most : p .length ≤ length listing
+  pub all : p .whole ≡ true → p .length ≡ length listing
 
 -- The portion is inside the buffer.
 pub record Held (p : Portion) (out : List ℕ) : Type 0 where

@@ -9,41 +9,58 @@ ghost use mathlib.Core.Path.{_≡_};
 ghost use mathlib.Core.Bool.{true, false};
 ghost use mathlib.Core.List.{List};
 ghost use Prim.Native.Nat.{ℕ, _≤_};
-ghost use lib.ListN.{length};
+ghost use lib.ListN.{length, take, drop, replicate};
+ghost use Rattle.layout.specs.Lists.{same};
 ghost use Rattle.reader.specs.OpeningAndReading.{Readable};
 ghost use Rattle.reader.specs.declared.HpsReader.{HpsReader};
-ghost use Rattle.key_listing.specs.MarkingKey.{listing, listingFrom, linesFrom};
-ghost use Rattle.key_listing.specs.Filling.{linesFitting};
-ghost use Rattle.key_print.specs.Portions.{Held, MoreIs, Common};
+ghost use Rattle.key_listing.specs.MarkingKey.{listing, listingFrom};
+ghost use Rattle.key_print.specs.Portions.{PrintedOf, Held, MoreIs, Common};
 
 // Room for a slot: one byte more than is listed, so that a longer slot is seen to be longer.
 pub fn slot_room() -> [u8; 65537]
-    ensures { λ r. ⌜ 65537 ≡ length r ⌝ }
+    ensures { λ r. ⌜ r ≡ replicate 65537 0 ⌝ }
 {
     [0; 65537]
 }
 
-// What is handed to the system are the lines from this stage on that fit: slot, record and stage are there for the premise alone.
-fn write_lines(fd: i32, s: &[u8], r: HpsReader, stage: Stage, bytes: &[u8]) -> bool
-    requires { ⌜ now bytes ≡ linesFitting 65536 (linesFrom (now s) r stage) ⌝ }
+// How many bytes of a listing were handed to the system, and whether it took them all.
+pub struct Printed {
+    pub length: usize,
+    pub whole: bool,
+}
+
+// What is handed to the system is the listing from this byte on: slot and number are there for the premise alone.
+fn write_lines(fd: i32, s: &[u8], from: usize, bytes: &[u8]) -> bool
+    requires { ⌜ now bytes ≡ take (length (now bytes)) (drop from (listing (now s))) ⌝ }
 {
     write_all(fd, bytes)
 }
 
-// Prints the listing of a slot.
-pub fn print_listing(fd: i32, s: &[u8]) {
+// Prints the listing of a slot, up to the portion of which the system does not take all.
+pub fn print_listing(fd: i32, s: &[u8]) -> Printed
+    ensures { λ p. ⌜ PrintedOf (listing (now (s .entry))) p ⌝ }
+{
     let start = start_listing(s);
     let r = start.reader;
     let mut stage = start.stage;
+    let mut length: usize = 0;
     let mut out = large_buffer();
     loop {
         let filled = fill(s, r, stage, &mut out);
         let n = filled.length;
         if n == 0 {
-            return;
+            return Printed {
+                length,
+                whole: true,
+            };
         }
-        if !write_lines(fd, s, r, stage, &out[..n]) {
-            return;
+        let all = write_lines(fd, s, length, &out[..n]);
+        length += n;
+        if !all {
+            return Printed {
+                length,
+                whole: false,
+            };
         }
         stage = filled.stage;
     }
@@ -147,8 +164,7 @@ fn same_stop(here: Stage, there: Stage) -> bool
 
 // Whether two slots have the same listing.
 pub fn same_listing(a: &[u8], b: &[u8]) -> bool
-    ensures { λ yes. ⌜ (yes ≡ true → listing (now (a .entry)) ≡ listing (now (b .entry))) ⌝ }
-    ensures { λ yes. ⌜ (yes ≡ false → listing (now (a .entry)) ≡ listing (now (b .entry)) → ⊥) ⌝ }
+    ensures { λ yes. ⌜ yes ≡ same (listing (now (a .entry))) (listing (now (b .entry))) ⌝ }
 {
     let left = start_listing(a);
     let right = start_listing(b);

@@ -1,11 +1,15 @@
--- Lists: laws that the libraries lack. What holds of every element, bytes one after the other, the same element n times.
+-- Lists: laws that the libraries lack. What holds of every element, bytes one after the other, the same element n times, the same list.
 use Prim.Native.Nat.{ℕ, zero, suc, _+_, _*_, _<_}
 use mathlib.Core.Path.{_≡_, refl, sym, ap, _∙_}
 use mathlib.Core.List.{List, [], _∷_, _++_, append-assoc, append-nil, flatMap}
 use native.Mathlib.Omega.{arith}
 use native.Mathlib.Nat.{le-of-suc-le-suc, not-suc-le-zero}
 use lib.ListN.{length, drop, getD, replicate, length-append}
-use Rattle.layout.specs.Lists.{All, none, more}
+use lib.Dec.{eqb}
+use borrow.Author.Tests.{eqb-true, eq-eqb}
+use mathlib.Core.Bool.{Bool, true, false}
+use Rattle.layout.specs.Lists.{All, none, more, same}
+use Rattle.layout.proofs.Cases.{by-cases, apart, and-true}
 
 -- ---- Every element
 
@@ -56,3 +60,32 @@ pub zeros-at : (n k : ℕ) → _≡_ {A = ℕ} (getD (replicate n 0) k 0) 0
 zeros-at zero k = refl
 zeros-at (suc n) zero = refl
 zeros-at (suc n) (suc k) = zeros-at n k
+
+-- ---- The same list
+
+same-self : (xs : List ℕ) → same xs xs ≡ true
+unfolding same
+same-self [] = refl
+same-self (x ∷ xs) = rw (eq-eqb x x refl) (same-self xs)
+
+pub same-is : {xs ys : List ℕ} → xs ≡ ys → same xs ys ≡ true
+same-is {xs} {ys} e = rw e (same-self ys)
+
+pub same-equal : (xs ys : List ℕ) → same xs ys ≡ true → xs ≡ ys
+unfolding same
+same-equal [] [] e = refl
+same-equal [] (y ∷ ys) e = apart (sym e)
+same-equal (x ∷ xs) [] e = apart (sym e)
+same-equal (x ∷ xs) (y ∷ ys) e =
+    let p = and-true (eqb x y) (same xs ys) e in
+    rw (eqb-true x y (p .0), same-equal xs ys (p .1))
+
+pub same-not : {xs ys : List ℕ} → same xs ys ≡ false → xs ≡ ys → ⊥
+same-not t e = apart (sym (same-is e) ∙ t)
+
+-- What tells two lists apart is `same`.
+pub decides : (b : Bool) {xs ys : List ℕ} → (b ≡ true → xs ≡ ys) → (b ≡ false → xs ≡ ys → ⊥) → b ≡ same xs ys
+decides b {xs} {ys} f g =
+    by-cases b
+    (λ u. u ∙ sym (same-is (f u)))
+    (λ u. by-cases (same xs ys) (λ t. absurd (g u (same-equal xs ys t))) (λ t. u ∙ sym t))

@@ -95,6 +95,10 @@ formatNumber Pcm8 = 25
 abbrev pub formatOf : ℕ → Read DspFormat
 formatOf n = pick (eqb n 0) (value Adpcm) (pick (eqb n 10) (value Pcm16) (pick (eqb n 25) (value Pcm8) (refused 4)))
 
+-- "two channels of 56 bytes"
+abbrev pub channelSize : ℕ
+channelSize = 56
+
 -- "Channel: u16 looping (nonzero is true), u16 format, u32 loop address, u32 end address, u32 current address, 16 i16 coefficients, u16 gain, context."
 unfoldable pub channelBytes : Channel → List ℕ
 channelBytes c =
@@ -109,8 +113,7 @@ channelAt s at f =
       format = f;
       «loop_address» = u32At s (at + 4);
       «end_address» = u32At s (at + 8);
-      «current_address» = u32At s
-          (at + 12);
+      «current_address» = u32At s (at + 12);
       coefficients = i16s s (at + 16) 16;
       gain = u16At s (at + 48);
       context = contextAt s (at + 50);
@@ -121,7 +124,7 @@ unfoldable pub readChannel : List ℕ → ℕ → Read Channel
 readChannel s at =
     on (field s (at + 4) (u16At s (at + 2))) refused (λ n.
     on (formatOf n) refused (λ f.
-    field s (at + 56) (channelAt s at f)))
+    field s (at + channelSize) (channelAt s at f)))
 
 -- "A second channel not in use is zero"
 unfoldable pub noChannel : Channel
@@ -208,10 +211,14 @@ padded bs = bs ++ replicate (P (length bs) - length bs) 0
 unfoldable pub sizeOf : List (List ℕ) → ℕ
 sizeOf ds = sum (λ d. P (length d)) ds
 
--- The header of a block with this next offset, length, contexts, cues and data.
+-- The header of a block with this next offset, length, contexts, number of cues and size.
+abbrev pub headerWith : (next dataLength : ℕ) (left right : FrameContext) (cues size : ℕ) → BlockHeader
+headerWith next n l r k size =
+    record { size = size; «end_address» = n - 1; «next_offset» = next; left = l; right = r; cues = k }
+
+-- The same of a block with these cues and this data.
 unfoldable pub blockHeader : (next dataLength : ℕ) (left right : FrameContext) → List CuePoint → List (List ℕ) → BlockHeader
-blockHeader next n l r ps ds =
-    record { size = sizeOf ds; «end_address» = n - 1; «next_offset» = next; left = l; right = r; cues = length ps }
+blockHeader next n l r ps ds = headerWith next n l r (length ps) (sizeOf ds)
 
 -- A block: header, "Then come cues of 8 bytes .., filled up to a multiple of 4 cues .. Then each channel's data"
 unfoldable pub blockBytes : (next dataLength : ℕ) (left right : FrameContext) → List CuePoint → List (List ℕ) → List ℕ

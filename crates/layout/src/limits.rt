@@ -27,6 +27,9 @@ pub const CUE_LIMIT: usize = 128;
 // The marking key reads a slot of at most 65,536 bytes.
 pub const KEY_LIMIT: usize = 65_536;
 
+// next offset 4,294,967,295: no block follows
+pub const END_BLOCK_OFFSET: u32 = 4_294_967_295;
+
 pub const FILE_HEADER_SIZE: usize = 128;
 
 // Two channels of 56 bytes.

@@ -1,24 +1,15 @@
 -- What holds of every element, of lists that are joined.
 use Prim.Native.Nat.{ℕ, zero, suc, _+_, _-_, _<_, _≤_}
 use mathlib.Core.Path.{_≡_, subst}
-use mathlib.Core.List.{List, [], _∷_, _++_}
+use mathlib.Core.List.{List, _++_}
 use native.Mathlib.Omega.{arith}
 use native.Mathlib.Nat.{le-of-suc-le-suc, not-suc-le-zero}
 use lib.ListN.{length, getD, replicate, length-append, List·getD-append}
 use lib.Seq.{getD-append-add}
 use lib.Dec.{ltb}
 use borrow.Author.Tests.{ltb-true, ltb-false}
-use Rattle.layout.specs.Lists.{All}
 use Rattle.layout.specs.Types.{Bytes}
 use Rattle.layout.proofs.Cases.{by-cases}
-
-pub all-append : {A : Type 0} {Q : A → Type 0} {xs ys : List A} → All Q xs → All Q ys → All Q (xs ++ ys)
-all-append All.none b = b
-all-append (All.more q a) b = All.more q (all-append a b)
-
-pub all-each : {A : Type 0} {Q R : A → Type 0} {xs : List A} → ((x : A) → Q x → R x) → All Q xs → All R xs
-all-each f All.none = All.none
-all-each f (All.more {x = x} q a) = All.more (f x q) (all-each f a)
 
 pub bytes-append : (k l : List ℕ) → Bytes k → Bytes l → Bytes (k ++ l)
 bytes-append k l a b i h =

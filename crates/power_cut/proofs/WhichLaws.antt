@@ -10,6 +10,7 @@ use lib.Seq.{take-append-le, take-take, take-at}
 use Rattle.layout.specs.Lists.{All, same, put}
 use Rattle.layout.specs.Types.{Bytes}
 use Rattle.layout.specs.Records.{magic, fileHeaderBytes, fileHeaderSize}
+use Rattle.layout.proofs.PutLaws.{put-length}
 use Rattle.layout.proofs.Cases.{by-cases}
 use Rattle.reader.proofs.RefusalLaws.{refusal}
 use Rattle.writer.specs.WritesAndCuttingRule.{Write, write, CutLeaves, torn, old, new, took}
@@ -22,8 +23,9 @@ use Rattle.power_cut.specs.WhichRefusal.{refusalBy, RefusalAt, CutTo, Re
 use Rattle.power_cut.proofs.Invariant.{Invariant}
 use Rattle.power_cut.proofs.RecordOf.{bookWritten}
 use Rattle.power_cut.proofs.Follow.{begin-accepted}
-use Rattle.power_cut.proofs.ElementLaws.{all-each, bytes-append, bytes-zeros}
-use Rattle.power_cut.proofs.CutLaws.{Away, away-part, away-cut, alike-take, put-length, carriedAll, Split, within, beyond, cut-split, cut-all, cut-join, taken-few}
+use Rattle.layout.proofs.ListLaws.{all-each}
+use Rattle.power_cut.proofs.ElementLaws.{bytes-append, bytes-zeros}
+use Rattle.power_cut.proofs.CutLaws.{Away, away-part, away-cut, alike-take, carriedAll, Split, within, beyond, cut-split, cut-all, cut-join, taken-few}
 use Rattle.power_cut.proofs.CutRun.{Written, run-kept, run-written, header-second, header-third, cut-law}
 use Rattle.power_cut.proofs.SlotLaws.{header-length}
 use Rattle.power_cut.proofs.SlotRun.{same-run}

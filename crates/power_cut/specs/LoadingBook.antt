@@ -1,5 +1,5 @@
 -- The loading book (document 01). It is fed the arguments of the calls, and of a lent buffer its length alone; nothing here knows the program's record.
-use Prim.Native.Nat.{ℕ, suc, _+_, _-_, _*_}
+use Prim.Native.Nat.{ℕ, suc, _+_, _-_}
 use mathlib.Core.Bool.{Bool, true, false}
 use mathlib.Core.List.{List, [], _∷_, _++_, map}
 use lib.ListN.{length, drop, getD, replicate}

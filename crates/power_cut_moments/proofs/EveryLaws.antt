@@ -1,19 +1,17 @@
 -- Every moment is a cut.
-use Prim.Native.Nat.{ℕ, suc, _+_, _-_, _<_, _≤_}
+use Prim.Native.Nat.{ℕ, _+_, _-_, _<_, _≤_}
 use mathlib.Core.Path.{_≡_, refl, ap, sym, _∙_}
-use mathlib.Core.Bool.{Bool, true, false}
 use mathlib.Core.List.{List, [], _∷_, _++_, append-assoc}
 use native.Mathlib.Omega.{arith}
-use lib.ListN.{length, take, drop, length-take, length-drop, length-append, take-append-drop}
+use lib.ListN.{length, take, drop, length-drop, length-append, take-append-drop}
 use lib.Seq.{take-all, length-take-le, drop-drop}
 use lib.Dec.{leb, eqb}
-use borrow.Author.Tests.{leb-true, leb-false, eqb-true, eqb-false}
-use Rattle.layout.specs.Choice.{pick}
-use Rattle.layout.specs.Lists.{All, none, more, put}
+use borrow.Author.Tests.{leb-false, eqb-true, eqb-false}
+use Rattle.layout.specs.Lists.{All, more, put}
 use Rattle.layout.specs.Types.{Bytes}
 use Rattle.layout.proofs.Cases.{by-cases}
 use Rattle.layout.proofs.PutLaws.{put-length, put-none}
-use Rattle.writer.specs.WritesAndCuttingRule.{Write, write, carried, CutLeaves, ended, torn, old, took}
+use Rattle.writer.specs.WritesAndCuttingRule.{Write, carried, CutLeaves, ended, torn, old, took}
 use Rattle.power_cut.specs.LoadingBook.{begun}
 use Rattle.power_cut.specs.PowerCut.{begin, allWrites, PowerCut}
 use Rattle.power_cut.proofs.ElementLaws.{bytes-append}

@@ -1,18 +1,18 @@
 -- The writes of a loading: each lies in the slot and holds bytes.
 use Prim.Native.Nat.{ℕ, zero, suc, _+_, _-_, _/_, _%_, _<_, _≤_}
-use mathlib.Core.Path.{_≡_, refl, sym, ap, _∙_}
+use mathlib.Core.Path.{_≡_, refl}
 use mathlib.Core.Bool.{Bool, true, false}
 use mathlib.Core.List.{List, [], _∷_, _++_, flatMap}
 use native.Mathlib.Omega.{arith}
 use native.Mathlib.Nat.{le-of-suc-le-suc, not-suc-le-zero}
-use lib.ListN.{length, take, drop, getD, replicate, length-take, length-drop}
+use lib.ListN.{length, drop, replicate, length-drop}
 use lib.Dec.{eqb, ltb, leb}
 use borrow.Author.Tests.{leb-false}
 use lib.IntN.{ℤ}
 use Rattle.layout.specs.Choice.{pick, _or_}
 use Rattle.layout.specs.Lists.{All, none, more, any, filter}
 use Rattle.layout.specs.Types.{Bytes}
-use Rattle.layout.specs.Records.{P, adpcmSamples, magic, be16, be32, beZ16, contextBytes, channelBytes, fileHeaderBytes, headerBytes, cueBytes, fillers, padded}
+use Rattle.layout.specs.Records.{P, adpcmSamples, magic, be16, be32, beZ16, contextBytes, channelBytes, fileHeaderBytes, headerBytes, cueBytes, padded}
 use Rattle.layout.specs.Records.{blockHeader, blockBytes, fileHeaderSize}
 use Rattle.layout.specs.declared.FrameContext.{FrameContext}
 use Rattle.layout.specs.declared.Channel.{Channel}
@@ -28,7 +28,7 @@ use Rattle.power_cut.specs.FinishedFile.{fileHeader}
 use Rattle.power_cut.proofs.Invariant.{Invariant}
 use Rattle.power_cut.proofs.RecordOf.{handsOut, bookWrites, bookWritten}
 use Rattle.power_cut.proofs.Keeping.{call-kept}
-use Rattle.power_cut.proofs.ElementLaws.{all-append, all-each}
+use Rattle.layout.proofs.ListLaws.{all-append, all-each}
 use Rattle.power_cut.proofs.CutRun.{run-written, header-first, header-second, header-third}
 use Rattle.power_cut.proofs.SlotRun.{same-run}
 use Rattle.power_cut_moments.specs.Moments.{Inside}

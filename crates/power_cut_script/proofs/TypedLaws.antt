@@ -25,7 +25,7 @@ use Rattle.script_lines.specs.declared.kinds.Kind.the-variants as Kinds
 use Rattle.script_groups.specs.Order.{said, sidesIn, lentBy, openingFrom}
 use Rattle.writer.specs.Loading.{cue, push, finish, Push}
 use Rattle.writer.specs.Typed.{TypedCue, TypedBlock, TypedSide, TypedPush, Typed}
-use Rattle.power_cut.proofs.ElementLaws.{all-append}
+use Rattle.layout.proofs.ListLaws.{all-append}
 use Rattle.cut_logged_calls.specs.LoggedCalls.{lentOf}
 use Rattle.script_run.specs.Script.{pushWith, pushBy, callBy, callsIn, callsOf, beginLineIn}
 use Rattle.layout.specs.Refusals.{keyLimit}

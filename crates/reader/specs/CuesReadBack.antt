@@ -6,7 +6,7 @@ use lib.Dec.{ltb, eqb}
 use mir.Syntax.{w64}
 use mir.Val.{ofZ}
 use Rattle.layout.specs.Choice.{pick, _and_}
-use Rattle.layout.specs.Records.{on, readHeader, cueAt, lengthIn, numSamples}
+use Rattle.layout.specs.Records.{on, readHeader, cueAt, lengthIn, numSamples, blockHeaderSize, cuePointSize}
 use Rattle.layout.specs.declared.CuePoint.{CuePoint}
 use Rattle.reader.specs.declared.LoopStart.{LoopStart}
 use Rattle.reader.specs.declared.LoopStart.the-variants.{None, Block}
@@ -63,7 +63,7 @@ cueFrom s r c [] i j b d = stepped CueAnswer.ended (cursor i j b d)
 cueFrom s r c (o ∷ os) i j b d =
     pick (d and loopHere (r .«loop_start») i) (stepped (CueAnswer.loop b) (cursor i j b false))
     (on (readHeader s o) (λ n. stepped (CueAnswer.refused n) c) (λ h.
-    pick (ltb j (h .cues)) (stepped (pointOf b (cueAt s (o + 32 + 8 * j))) (cursor i (j + 1) b d))
+    pick (ltb j (h .cues)) (stepped (pointOf b (cueAt s (o + blockHeaderSize + cuePointSize * j))) (cursor i (j + 1) b d))
     (cueFrom s r c os (i + 1) 0 (baseAfter r b (lengthIn h)) d)))
 
 -- "A cue call steps as `CueIterator::next` does, from a cursor"

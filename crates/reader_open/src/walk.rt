@@ -1,7 +1,7 @@
 // The walk along the chain of blocks (document 01, "Opening and reading").
 use layout::answers::HeaderRead;
+use layout::limits::END_BLOCK_OFFSET;
 use layout_read::block::read_header;
-use reader::END_BLOCK_OFFSET;
 use reader::FIRST_BLOCK_OFFSET;
 use reader::answers::Walk;
 use reader::answers::WalkReply;

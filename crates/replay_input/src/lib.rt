@@ -6,7 +6,7 @@ pub mod report; // report.rt: what is printed of a case
 
 ghost use Prim.Native.Nat.{_<_};
 ghost use mathlib.Core.Path.{_≡_};
-ghost use lib.ListN.{length};
+ghost use lib.ListN.{replicate};
 ghost use Rattle.layout_read.specs.NumberOrZero.{wordAt};
 ghost use Rattle.replay_input.specs.Parts.{partAt};
 
@@ -14,7 +14,7 @@ ghost use Rattle.replay_input.specs.Parts.{partAt};
 pub const ROOM: usize = 700000;
 
 pub fn input_room() -> [u8; ROOM]
-    ensures { λ r. ⌜ 700000 ≡ length r ⌝ }
+    ensures { λ r. ⌜ r ≡ replicate 700000 0 ⌝ }
 {
     [0; ROOM]
 }

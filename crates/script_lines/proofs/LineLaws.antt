@@ -1,7 +1,7 @@
 -- Tests that the code joins, and the kinds that an arm takes.
 use Prim.Native.Nat.{ℕ}
 use mathlib.Core.Path.{_≡_, refl, subst, _∙_}
-use mathlib.Core.Bool.{Bool, true, false, not, _&&_}
+use mathlib.Core.Bool.{false, not}
 use mathlib.Core.List.{List, [], _∷_}
 use Rattle.script_lines.proofs.kinds.Kind.{the-type}
 use denote.Enum.Declared.{tagOf}
@@ -9,12 +9,10 @@ use borrow.Author.Tests.{ne-eqb}
 use lib.Dec.{T}
 use mir.Val.{hasKey}
 use types.Run.{OneOf, miss}
-use Rattle.layout.specs.Choice.{_and_}
 use Rattle.writer.specs.declared.CueKind.{CueKind}
 use Rattle.script_lines.specs.declared.kinds.Kind.{Kind}
 use Rattle.script_lines.specs.declared.kinds.Kind.the-variants as Kinds
 use Rattle.script_lines.specs.Lines.{place, isKind, cueNamed, cueSaid}
-use Rattle.layout.proofs.Cases.{both}
 
 tag-is : (k : Kind) → tagOf the-type k ≡ place k
 tag-is Kinds.Nothing = refl

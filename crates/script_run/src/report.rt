@@ -1,36 +1,16 @@
 // What is reported of a call.
 use cut_report::print_line;
+use cut_report::reply_line;
+use cut_report::write_line;
 use cut_write_log::WriteLog;
-use key_lines::Column;
 use script_lines::kinds::Kind;
 use writer::MOST_WRITES;
-use writer::Place;
 use writer::Reply;
 
 // Where calls are reported, and whether they are.
 pub struct Output {
     pub fd: i32,
     pub verbose: bool,
-}
-
-// DONE and the call's number, of finish the length too; or STOP, the number and the refusal.
-fn report_reply(fd: i32, call: u64, reply: Reply) {
-    let number = Column::Number(call);
-    let none = Column::Nothing;
-    match reply {
-        Reply::Refused(why) => print_line(fd, b"STOP", number, Column::Number(why as u64), none),
-        Reply::NoWrite => print_line(fd, b"DONE", number, none, none),
-        Reply::OneWrite(_) => print_line(fd, b"DONE", number, none, none),
-        Reply::ThreeWrites(length, _, _, _) => {
-            print_line(fd, b"DONE", number, Column::Number(length as u64), none)
-        }
-    }
-}
-
-fn report_write(fd: i32, call: u64, place: Place) {
-    let offset = Column::Number(place.offset as u64);
-    let length = Column::Number(place.length as u64);
-    print_line(fd, b"WRIT", Column::Number(call), offset, length);
 }
 
 // The writes logged from here on.
@@ -40,7 +20,7 @@ fn report_writes(fd: i32, call: u64, log: WriteLog, from: usize) {
     while i < log.count {
         if i < MOST_WRITES {
             let place = places[i];
-            report_write(fd, call, place);
+            print_line(fd, write_line(call, place));
         }
         i += 1;
     }
@@ -48,7 +28,7 @@ fn report_writes(fd: i32, call: u64, log: WriteLog, from: usize) {
 
 // Reports a call: its reply, and the writes that are logged from its first on.
 pub(crate) fn report_call(fd: i32, call: u64, reply: Reply, log: WriteLog, from: usize) {
-    report_reply(fd, call, reply);
+    print_line(fd, reply_line(call, reply));
     report_writes(fd, call, log, from);
 }
 

@@ -1,5 +1,5 @@
 -- Push (document 01, "Loading"), by the numbers that its code works with: the cues that a block takes, the loop block, the next offset, and the stream
--- after it. `pushOf` in Calls is made of these, and each function of push's code is equal to one of them.
+-- after it. `pushOf` in Calls and the plan of push's code are both made of these; its order and its sizes stand in Loading.
 use Prim.Native.Nat.{ℕ, suc, _+_}
 use mathlib.Core.Bool.{Bool, false}
 use mathlib.Core.List.{List, [], _∷_}
@@ -34,8 +34,8 @@ cuesTaken t from n end last = take (countTaken t from n end last) (slice from n 
 
 -- ---- The loop block and the next offset
 
--- Whether the block would be the loop block, by whether the table has a Loop and whether the block takes one: it takes a Loop cue; or Enabled, no Loop cue
--- in the table, and the block is the last or ends past sample 0.
+-- Whether the block would be the loop block, by whether the table has a Loop and whether the block takes one: not if Disabled; where it takes a Loop cue;
+-- or where Enabled, no Loop cue is in the table, and the block is the last or ends past sample 0.
 unfoldable pub loopsHere : Looping → (held asked : Bool) (end : ℕ) (last : Bool) → Bool
 loopsHere m held asked end last = byMode m false (pick held asked (last or ltb 0 end)) asked
 

@@ -72,7 +72,7 @@ module _ (w : HpsWriter) (ch : ℕ) (l r : ChannelBlock) (ld rd : List ℕ) (las
 
   -- the number of a plan that counts the points and ranges right where no number before 24 is due
   planned-due : (k m lent : ℕ) → (firstDue early ≡ 0 → k ≡ m)
-      → planDue (w .setup) (w .stream) k ch l r (length ld) (length rd) lent ≡ firstDue (pushOrder (stateIn w) m (pushArgs ch l r ld rd last) lent)
+      → planDue (w .setup) (w .stream) k ch l r (length ld) (length rd) lent ≡ firstDue (pushOrder (stateIn w) m ch l r (length ld) (length rd) lent)
   unfolding planDue pushOrder
   planned-due k m lent h =
       by-cases (eqb (firstDue early) 0)
@@ -81,7 +81,7 @@ module _ (w : HpsWriter) (ch : ℕ) (l r : ChannelBlock) (ld rd : List ℕ) (las
 
   -- none is due before 24 where none is due at all
   early-none : (k lent : ℕ) → planDue (w .setup) (w .stream) k ch l r (length ld) (length rd) lent ≡ 0 → firstDue early ≡ 0
-  unfolding planDue
+  unfolding planDue pushOrder
   early-none k lent z =
       by-cases (eqb (firstDue early) 0) (λ q. eqb-true _ 0 q) (λ q. group-yes (firstDue early) early _ refl (eqb-false _ 0 q) ∙ z)
 
@@ -172,12 +172,12 @@ module _ {w : HpsWriter} {ch : ℕ} {l r : ChannelBlock} {ld rd : List ℕ} {las
     unfolding madePlan
     starts = ap (λ (p : Plan). p .start) made
 
-    pub totals : plan .size ≡ dataAfter (t .points) + dataSize ch (length ld) (length rd)
+    pub totals : plan .size ≡ sizeWith (t .points) ch (length ld) (length rd)
     unfolding madePlan
     totals = ap (λ (p : Plan). p .size) made
 
     pub sized : plan .size ≡ blockSize (takenOf w args) args
-    sized = totals ∙ ap (λ (m : ℕ). sizeWith m args) (counted (passes .short))
+    sized = totals ∙ ap (λ (m : ℕ). sizeWith m ch (length ld) (length rd)) (counted (passes .short))
 
     pub room : (w .stream .offset + plan .size ≤ w .setup .slot) × (plan .size ≤ length lent)
     room = has-room w args (length lent) (plan .size) (sym due-is ∙ z) sized

@@ -21,7 +21,7 @@ use Rattle.writer.specs.declared.LoopAt.{LoopAt}
 use Rattle.writer.specs.declared.LoopAt.the-variants.{Nowhere, At}
 use Rattle.writer.specs.declared.ChannelBlock.{ChannelBlock}
 use Rattle.writer.proofs.GoodLaws.{short-length, looped-after}
-use Rattle.writer.specs.Loading.{dataSize, secondContext, stateDue, rateDue, lengthDue, dataDue, coefficientsDue, earlyDue, roomDue}
+use Rattle.writer.specs.Loading.{dataSize, secondContext, pushOrder, stateDue, rateDue, lengthDue, dataDue, coefficientsDue, earlyDue, roomDue}
 use Rattle.writer_push_refusal.proofs.DecideLaws.{group-yes, group-no}
 use Rattle.writer_push_refusal.proofs.GroupLaws.{early-numbered}
 use Rattle.writer_assign_cues.specs.declared.Taken.{Taken}
@@ -175,19 +175,19 @@ module _ (u : Setup) (s : Stream) (t : Taken) (held : Bool) (end ch : ℕ) (l r 
 
   module _ (n : ℕ) (is : n ≡ firstDue (earlyDue (s .last) (u .channels) (s .blocks) (s .left) (s .right) ch l r lb rb)) where
     pub plan-early : (n ≡ 0 → ⊥) → (p : Plan) → p ≡ noPlan n s → p ≡ planOf u s t held end ch l r lb rb last lent
-    unfolding planDue
+    unfolding planDue pushOrder
     plan-early h p e = e ∙ refused-plan n (group-yes n _ _ is h) h
 
     -- more points and ranges than the slot has bytes
     pub plan-many : n ≡ 0 → u .slot < 8 * t .points → (p : Plan) → p ≡ noPlan 24 s → p ≡ planOf u s t held end ch l r lb rb last lent
-    unfolding planDue roomDue firstDue
+    unfolding planDue pushOrder roomDue firstDue
     plan-many none h p e =
         let over : u .slot < s .offset + (dataAfter (t .points) + dataSize ch lb rb) = omega (arith, P-above (8 * t .points)) in
         e ∙ refused-plan 24 (group-no n 24 _ _ (early-numbered _ _ _ _ _ _ _ _ _ _) is none (rw (lt-ltb (u .slot) _ over))) (λ z. omega arith)
 
     module _ (none : n ≡ 0) (m size : ℕ) (sized : size ≡ dataAfter (t .points) + dataSize ch lb rb) (room : m ≡ firstDue (roomDue (u .slot) (s .offset) size lent)) where
       room-is : m ≡ planDue u s (t .points) ch l r lb rb lent
-      unfolding planDue
+      unfolding planDue pushOrder
       room-is = group-no n m _ _ (early-numbered _ _ _ _ _ _ _ _ _ _) is none (room ∙ ap (λ (k : ℕ). firstDue (roomDue (u .slot) (s .offset) k lent)) sized)
 
       pub plan-room : (m ≡ 0 → ⊥) → (p : Plan) → p ≡ noPlan m s → p ≡ planOf u s t held end ch l r lb rb last lent

@@ -1,13 +1,13 @@
 -- The plan of a push: what its code works out of numbers alone, before it writes a byte.
-use Prim.Native.Nat.{ℕ, _+_, _-_}
+use Prim.Native.Nat.{ℕ, _+_}
 use mathlib.Core.Bool.{Bool}
-use mathlib.Core.List.{_++_}
 use lib.Dec.{eqb}
 use Rattle.layout.specs.Choice.{pick}
-use Rattle.layout.specs.Records.{zeroContext, dataAfter}
+use Rattle.layout.specs.Records.{zeroContext, dataAfter, headerWith}
 use Rattle.layout.specs.Refusals.{firstDue}
 use Rattle.layout.specs.declared.BlockHeader.{BlockHeader}
-use Rattle.writer.specs.Loading.{dataSize, secondContext, earlyDue, roomDue}
+use Rattle.writer.specs.Loading.{dataSize, sizeWith, secondContext, pushOrder}
+use Rattle.writer.specs.Calls.{stateWith}
 use Rattle.writer.specs.Push.{loopsHere, loopFrom, nextOffset, advanced}
 use Rattle.writer.specs.declared.ChannelBlock.{ChannelBlock}
 use Rattle.writer.specs.declared.Setup.{Setup}
@@ -17,21 +17,11 @@ use Rattle.writer_push_plan.specs.declared.Plan.{Plan}
 
 -- The first number due of a push whose block has so many points and ranges.
 unfoldable pub planDue : Setup → Stream → (points channels : ℕ) (left right : ChannelBlock) (leftBytes rightBytes lent : ℕ) → ℕ
-planDue u s k ch l r lb rb lent =
-    firstDue
-    (earlyDue (s .last) (u .channels) (s .blocks) (s .left) (s .right) ch l r lb rb ++ roomDue (u .slot) (s .offset) (dataAfter k + dataSize ch lb rb) lent)
+planDue u s k ch l r lb rb lent = firstDue (pushOrder (stateWith u s) k ch l r lb rb lent)
 
 -- The header of a block of so many points and ranges with this next offset.
 unfoldable pub headerIn : (points channels : ℕ) (left right : ChannelBlock) (leftBytes rightBytes next : ℕ) → BlockHeader
-headerIn k ch l r lb rb next =
-    record {
-      size = dataSize ch lb rb;
-      «end_address» = l .length - 1;
-      «next_offset» = next;
-      left = l .context;
-      right = secondContext ch r;
-      cues = k;
-    }
+headerIn k ch l r lb rb next = headerWith next (l .length) (l .context) (secondContext ch r) k (dataSize ch lb rb)
 
 -- Refused with this number: the stream stays.
 abbrev pub noPlan : ℕ → Stream → Plan
@@ -47,7 +37,7 @@ noPlan n s =
 -- A block that takes these cues.
 unfoldable pub madePlan : Setup → Stream → Taken → (held : Bool) (end channels : ℕ) (left right : ChannelBlock) (leftBytes rightBytes : ℕ) (last : Bool) → Plan
 madePlan u s t held end ch l r lb rb last =
-    let size = dataAfter (t .points) + dataSize ch lb rb in
+    let size = sizeWith (t .points) ch lb rb in
     let loopat = loopFrom (s .loopat) (s .offset) (loopsHere (u .mode) held (t .asked) end last) in
     record {
       due = 0;

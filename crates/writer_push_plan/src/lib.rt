@@ -3,6 +3,7 @@ use layout::BlockHeader;
 use layout::FrameContext;
 use layout::limits::BLOCK_HEADER_SIZE;
 use layout::limits::CUE_POINT_SIZE;
+use layout::limits::END_BLOCK_OFFSET;
 use layout::limits::SLOT_LIMIT;
 use layout_sizes::adpcm_samples;
 use layout_sizes::align;
@@ -25,8 +26,6 @@ ghost use Rattle.writer_push_plan.specs.PushPlan.{noPlan, planOf};
 ghost use Rattle.layout.specs.Refusals.{slotLimit, monoLimit, blockLimit};
 ghost use lib.Dec.{eqb};
 ghost use Rattle.layout.specs.Choice.{pick};
-
-const END_BLOCK_OFFSET: u32 = 4294967295;
 
 // The number due, 0 where none is; then the block's header, where its data starts, its size, and the stream after it.
 pub struct Plan {

@@ -1,5 +1,5 @@
 -- Coefficients compared, one after the other: by their bits, since the program's test goes by these.
-use Prim.Native.Nat.{ℕ, suc, _+_, _<_, _≤_}
+use Prim.Native.Nat.{ℕ, _+_, _<_, _≤_}
 use mathlib.Core.Path.{_≡_, refl, ap, sym, _∙_}
 use mathlib.Core.Bool.{true, false}
 use mathlib.Core.List.{List, [], _∷_}
@@ -11,7 +11,6 @@ use lib.Seq.{drop-cons}
 use lib.IntN.{ℤ, pos, negsuc}
 use mir.Syntax.{w16}
 use mir.Val.{ofZ, SFits}
-use Rattle.layout.specs.Choice.{_and_}
 use Rattle.writer.specs.Loading.{eqZ, sameZ}
 
 -- Two numbers are the same where their bits are.

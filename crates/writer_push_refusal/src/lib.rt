@@ -34,11 +34,11 @@ fn differ(channels: usize, left: usize, right: usize) -> bool
 }
 
 // A later block, and its number is not the first one's.
-fn changed(blocks: usize, first: u32, now: u32) -> bool
-    ensures { λ r. ⌜ r ≡ changed blocks first now ⌝ }
+fn changed(blocks: usize, first: u32, given: u32) -> bool
+    ensures { λ r. ⌜ r ≡ changed blocks first given ⌝ }
 {
     if blocks > 0 {
-        return now != first;
+        return given != first;
     }
     false
 }

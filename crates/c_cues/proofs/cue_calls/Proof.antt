@@ -9,14 +9,6 @@ use Rattle.c_cues.proofs.CallLaws.{table-long, two-channels, parts, sho
 use borrow.Author.Needs.{needs}
 use Rattle.c_cues.proofs.cue_calls.Statement.{statement}
 use Rattle.c_cues.proofs.cue_calls.Tie as tie
-use Rattle.c_cues.proofs.cue_calls.Reads as reads
-use Rattle.c_cues.proofs.cue_calls.Lts as lts
-use Rattle.c_cues.proofs.cursor_in.Reads as cursor-in-reads
-use Rattle.c_cues.proofs.fill_cues.Reads as fill-cues-reads
-use Rattle.c_cues.proofs.gives.Reads as gives-reads
-use Rattle.c_cues.proofs.number_after.Reads as number-after-reads
-use Rattle.c_cues.proofs.put_cursor.Reads as put-cursor-reads
-use Rattle.c_opened.proofs.opened.reader_in.Reads as reader-in-reads
 
 -- what is lent
 abbrev lent : tie.Start → CuesLent

@@ -1,8 +1,6 @@
 use Rattle.c_cues.proofs.CursorLaws.{cursor-back, zeros-first}
 use Rattle.c_cues.proofs.cursor_back.Statement.{statement}
 use Rattle.c_cues.proofs.cursor_back.Tie as tie
-use Rattle.c_cues.proofs.cursor_back.Reads as reads
-use Rattle.c_cues.proofs.cursor_back.Lts as lts
 
 returns : tie.Need-returns
 returns c = record { zeros = zeros-first; back = λ r bs c f h. cursor-back bs c r f h }

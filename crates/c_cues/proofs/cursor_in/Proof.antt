@@ -2,11 +2,6 @@ use Rattle.c_cues.proofs.CursorLaws.{cursor-read}
 use native.Mathlib.Omega.{arith}
 use Rattle.c_cues.proofs.cursor_in.Statement.{statement}
 use Rattle.c_cues.proofs.cursor_in.Tie as tie
-use Rattle.c_cues.proofs.cursor_in.Reads as reads
-use Rattle.c_cues.proofs.cursor_in.Lts as lts
-use Rattle.reader_cues.proofs.first_cursor.Reads as first-cursor-reads
-use Rattle.layout_read.proofs.number_or_zero.long.Reads as long-reads
-use Rattle.layout_read.proofs.number_or_zero.word.Reads as word-reads
 
 first-cursor-requires : tie.Need-first-cursor-requires
 first-cursor-requires c κs = tt

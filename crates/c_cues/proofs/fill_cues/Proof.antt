@@ -10,11 +10,6 @@ use Rattle.c_cues.proofs.FillLaws.{Room, Filling, room-none, filling-no
 use borrow.Author.Needs.{needs}
 use Rattle.c_cues.proofs.fill_cues.Statement.{statement}
 use Rattle.c_cues.proofs.fill_cues.Tie as tie
-use Rattle.c_cues.proofs.fill_cues.Reads as reads
-use Rattle.c_cues.proofs.fill_cues.Lts as lts
-use Rattle.reader_cues.proofs.cue_from.Reads as cue-from-reads
-use Rattle.c_cues.proofs.filled.Reads as filled-reads
-use Rattle.c_cues.proofs.bytes.put_reply.Reads as put-reply-reads
 
 abbrev Inv-loop : tie.InvT-loop
 Inv-loop s offsets blocks start format out₀ block₀ place₀ base₀ due₀ cues₀ at₀ out block place base due cues at =

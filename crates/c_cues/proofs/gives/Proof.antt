@@ -1,8 +1,6 @@
 use borrow.Author.Tests.{eq-eqb, ne-eqb}
 use Rattle.c_cues.proofs.gives.Statement.{statement}
 use Rattle.c_cues.proofs.gives.Tie as tie
-use Rattle.c_cues.proofs.gives.Reads as reads
-use Rattle.c_cues.proofs.gives.Lts as lts
 
 returns : tie.Need-returns
 returns c = rw (eq-eqb (c .before .args .number) 0 (c .if1 .taken))

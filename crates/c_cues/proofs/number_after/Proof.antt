@@ -2,8 +2,6 @@ use borrow.Author.Tests.{eq-eqb, ne-eqb}
 use Rattle.c_cues.specs.KeptCues.{numberAfter}
 use Rattle.c_cues.proofs.number_after.Statement.{statement}
 use Rattle.c_cues.proofs.number_after.Tie as tie
-use Rattle.c_cues.proofs.number_after.Reads as reads
-use Rattle.c_cues.proofs.number_after.Lts as lts
 
 returns : tie.Need-returns
 unfolding numberAfter

@@ -19,15 +19,6 @@ use Rattle.c_loading.proofs.CallLaws.{leaves, left-as, given-as, begin-
 use borrow.Author.Needs.{needs}
 use Rattle.c_loading.proofs.begin_kept.Statement.{statement}
 use Rattle.c_loading.proofs.begin_kept.Tie as tie
-use Rattle.c_loading.proofs.begin_kept.Reads as reads
-use Rattle.c_loading.proofs.begin_kept.Lts as lts
-use Rattle.c_record.proofs.loader.fields_of.Reads as fields-of-reads
-use Rattle.c_loading.proofs.call_of.Reads as call-of-reads
-use Rattle.c_loading.proofs.refused.Reads as refused-reads
-use Rattle.c_record_put.proofs.numbers.put_numbers.Reads as put-numbers-reads
-use Rattle.c_record_put.proofs.put_sides.Reads as put-sides-reads
-use Rattle.c_record.proofs.loader.mode_of.Reads as mode-of-reads
-use Rattle.writer.proofs.begin.Reads as begin-reads
 use Rattle.c_record.specs.KeptSides.{loaderSize}
 use Rattle.c_record_put.specs.KeptNumbers.{numberBytes}
 

@@ -3,9 +3,6 @@ use Rattle.c_loading.specs.KeptLoading.{callIn}
 use borrow.Author.Needs.{needs}
 use Rattle.c_loading.proofs.call_of.Statement.{statement}
 use Rattle.c_loading.proofs.call_of.Tie as tie
-use Rattle.c_loading.proofs.call_of.Reads as reads
-use Rattle.c_loading.proofs.call_of.Lts as lts
-use Rattle.c_loading.proofs.refused.Reads as refused-reads
 
 returns : tie.Need-returns
 returns c = c .refused .ensures ∙ sym (ap callIn (c .before .before .reply .given .1))

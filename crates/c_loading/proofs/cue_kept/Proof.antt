@@ -1,5 +1,4 @@
 use mathlib.Core.Path.{_≡_, refl, ap, sym, _∙_}
-use borrow.Author.Tests.{ne-eqb}
 use Rattle.writer.specs.Calls.{called, cueOf}
 use Rattle.writer.specs.declared.HpsWriter.{HpsWriter}
 use Rattle.writer.specs.declared.Called.{Called}
@@ -12,13 +11,6 @@ use Rattle.c_loading.specs.KeptLoading.{callIn, callOf}
 use borrow.Author.Needs.{needs}
 use Rattle.c_loading.proofs.cue_kept.Statement.{statement}
 use Rattle.c_loading.proofs.cue_kept.Tie as tie
-use Rattle.c_loading.proofs.cue_kept.Reads as reads
-use Rattle.c_loading.proofs.cue_kept.Lts as lts
-use Rattle.writer_cue.proofs.cue.Reads as cue-reads
-use Rattle.c_loading.proofs.call_of.Reads as call-of-reads
-use Rattle.c_loading.proofs.refused.Reads as refused-reads
-use Rattle.c_record_put.proofs.table.put_table.Reads as put-table-reads
-use Rattle.c_record.proofs.loader.writer_in.Reads as writer-in-reads
 
 returns : tie.Need-returns
 returns c =

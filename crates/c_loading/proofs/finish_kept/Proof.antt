@@ -1,5 +1,5 @@
 use mathlib.Core.Path.{_≡_, refl, ap, sym, _∙_}
-use borrow.Author.Tests.{eq-eqb, ne-eqb}
+use borrow.Author.Tests.{eq-eqb}
 use Rattle.writer.specs.Calls.{called, finishOf}
 use Rattle.writer.specs.declared.HpsWriter.{HpsWriter}
 use Rattle.writer.specs.declared.Called.{Called}
@@ -12,13 +12,6 @@ use Rattle.c_loading.specs.declared.KeptCall.{KeptCall}
 use borrow.Author.Needs.{needs}
 use Rattle.c_loading.proofs.finish_kept.Statement.{statement}
 use Rattle.c_loading.proofs.finish_kept.Tie as tie
-use Rattle.c_loading.proofs.finish_kept.Reads as reads
-use Rattle.c_loading.proofs.finish_kept.Lts as lts
-use Rattle.writer_finish.proofs.finish.Reads as finish-reads
-use Rattle.c_loading.proofs.call_of.Reads as call-of-reads
-use Rattle.c_loading.proofs.refused.Reads as refused-reads
-use Rattle.c_record_put.proofs.numbers.put_finished.Reads as put-finished-reads
-use Rattle.c_record.proofs.loader.writer_in.Reads as writer-in-reads
 
 returns : tie.Need-returns
 returns c =

@@ -30,21 +30,6 @@ use Rattle.c_push.proofs.PushedLaws.{signed-field, push-after, push-str
 use borrow.Author.Needs.{needs}
 use Rattle.c_push.proofs.push_kept.Statement.{statement}
 use Rattle.c_push.proofs.push_kept.Tie as tie
-use Rattle.c_push.proofs.push_kept.Reads as reads
-use Rattle.c_push.proofs.push_kept.Lts as lts
-use Rattle.writer_push.proofs.put_data.Reads as put-data-reads
-use Rattle.c_record_put.proofs.put_pushed.Reads as put-pushed-reads
-use Rattle.c_loading.proofs.refused.Reads as refused-reads
-use Rattle.c_record.proofs.loader.held_kept.Reads as held-kept-reads
-use Rattle.c_record.proofs.loader.put_taken_kept.Reads as put-taken-kept-reads
-use Rattle.c_record.proofs.loader.setup_of.Reads as setup-of-reads
-use Rattle.c_record.proofs.loader.stream_in.Reads as stream-in-reads
-use Rattle.c_record.proofs.loader.stream_of.Reads as stream-of-reads
-use Rattle.c_record.proofs.loader.take_kept.Reads as take-kept-reads
-use Rattle.c_record.proofs.loader.with_stream.Reads as with-stream-reads
-use Rattle.writer_push_plan.proofs.block_end.Reads as block-end-reads
-use Rattle.writer_push_plan.proofs.plan_push.Reads as plan-push-reads
-use Rattle.layout_put_block.proofs.put_header.Reads as put-header-reads
 
 -- ---- What is known at the places of the code
 

@@ -4,9 +4,6 @@ use Rattle.c_record.specs.declared.Fields.{Fields}
 use borrow.Author.Needs.{needs}
 use Rattle.c_push.proofs.without_side.Statement.{statement}
 use Rattle.c_push.proofs.without_side.Tie as tie
-use Rattle.c_push.proofs.without_side.Reads as reads
-use Rattle.c_push.proofs.without_side.Lts as lts
-use Rattle.c_record.proofs.loader.stream_in.Reads as stream-in-reads
 
 returns : tie.Need-returns
 returns c = rw (eq-eqb _ 0 (sym (ap (λ (m : Fields). m .slot) (c .before .before .stream-in .ensures)) ∙ c .if1 .taken))

@@ -5,9 +5,6 @@ use Rattle.c_record.proofs.ReadingLaws.{Signed, signed-start, signed-ag
 use borrow.Author.Needs.{needs}
 use Rattle.c_record.proofs.coefficients_in.Statement.{statement}
 use Rattle.c_record.proofs.coefficients_in.Tie as tie
-use Rattle.c_record.proofs.coefficients_in.Reads as reads
-use Rattle.c_record.proofs.coefficients_in.Lts as lts
-use Rattle.layout_read.proofs.number_or_zero.signed.Reads as signed-reads
 
 abbrev Inv-loop : tie.InvT-loop
 Inv-loop s at coefficients₀ i₀ coefficients i = Signed s at coefficients i

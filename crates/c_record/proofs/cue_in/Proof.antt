@@ -2,11 +2,6 @@ use Rattle.c_record.specs.KeptSides.{cueIn}
 use borrow.Author.Needs.{needs}
 use Rattle.c_record.proofs.cue_in.Statement.{statement}
 use Rattle.c_record.proofs.cue_in.Tie as tie
-use Rattle.c_record.proofs.cue_in.Reads as reads
-use Rattle.c_record.proofs.cue_in.Lts as lts
-use Rattle.layout_read.proofs.number_or_zero.long.Reads as long-reads
-use Rattle.layout_read.proofs.number_or_zero.word.Reads as word-reads
-use Rattle.c_record.proofs.kind_of.Reads as kind-of-reads
 
 returns : tie.Need-returns
 unfolding cueIn

@@ -4,9 +4,6 @@ use Rattle.c_record.proofs.ReadingLaws.{Cues, cues-start, cues-again, c
 use borrow.Author.Needs.{needs}
 use Rattle.c_record.proofs.cues_in.Statement.{statement}
 use Rattle.c_record.proofs.cues_in.Tie as tie
-use Rattle.c_record.proofs.cues_in.Reads as reads
-use Rattle.c_record.proofs.cues_in.Lts as lts
-use Rattle.c_record.proofs.cue_in.Reads as cue-in-reads
 
 abbrev Inv-loop : tie.InvT-loop
 Inv-loop s at n cues₀ i₀ cues i = Cues s at cues i × (i ≤ n)

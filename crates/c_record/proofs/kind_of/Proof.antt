@@ -2,8 +2,6 @@ use borrow.Author.Needs.{needs}
 use Rattle.c_record.proofs.ReadingLaws.{kind-point, kind-loop, kind-range}
 use Rattle.c_record.proofs.kind_of.Statement.{statement}
 use Rattle.c_record.proofs.kind_of.Tie as tie
-use Rattle.c_record.proofs.kind_of.Reads as reads
-use Rattle.c_record.proofs.kind_of.Lts as lts
 
 returns : tie.Need-returns
 returns c = search (kind-point, needs)

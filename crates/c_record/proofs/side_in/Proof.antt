@@ -3,12 +3,6 @@ use Rattle.c_record.specs.KeptSides.{sideIn}
 use borrow.Author.Needs.{needs}
 use Rattle.c_record.proofs.side_in.Statement.{statement}
 use Rattle.c_record.proofs.side_in.Tie as tie
-use Rattle.c_record.proofs.side_in.Reads as reads
-use Rattle.c_record.proofs.side_in.Lts as lts
-use Rattle.layout_read.proofs.number_or_zero.word.Reads as word-reads
-use Rattle.c_record.proofs.coefficients_in.Reads as coefficients-in-reads
-use Rattle.layout_read.proofs.number_or_zero.half.Reads as half-reads
-use Rattle.layout_read.proofs.number_or_zero.signed.Reads as signed-reads
 
 returns : tie.Need-returns
 unfolding sideIn

@@ -4,8 +4,6 @@ use borrow.Author.Tests.{lt-ltb, le-ltb, eq-eqb, ne-eqb}
 use Rattle.c_record.specs.KeptSides.{sidesShort, sideSize}
 use Rattle.c_record.proofs.sides_short.Statement.{statement}
 use Rattle.c_record.proofs.sides_short.Tie as tie
-use Rattle.c_record.proofs.sides_short.Reads as reads
-use Rattle.c_record.proofs.sides_short.Lts as lts
 
 returns : tie.Need-returns
 unfolding sidesShort

@@ -4,10 +4,6 @@ use Rattle.c_record_put.proofs.RecordLaws.{record-put, first-put, later
 use borrow.Author.Needs.{needs}
 use Rattle.c_record_put.proofs.put_pushed.Statement.{statement}
 use Rattle.c_record_put.proofs.put_pushed.Tie as tie
-use Rattle.c_record_put.proofs.put_pushed.Reads as reads
-use Rattle.c_record_put.proofs.put_pushed.Lts as lts
-use Rattle.c_record_put.proofs.numbers.put_numbers.Reads as put-numbers-reads
-use Rattle.c_record_put.proofs.put_sides.Reads as put-sides-reads
 
 left : (z : tie.Start) → length (z .args .s .left .coefficients) ≡ 16
 left z = search needs

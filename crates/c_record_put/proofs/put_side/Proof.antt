@@ -4,12 +4,6 @@ use Rattle.c_record_put.proofs.RecordLaws.{side-put}
 use borrow.Author.Needs.{needs}
 use Rattle.c_record_put.proofs.put_side.Statement.{statement}
 use Rattle.c_record_put.proofs.put_side.Tie as tie
-use Rattle.c_record_put.proofs.put_side.Reads as reads
-use Rattle.c_record_put.proofs.put_side.Lts as lts
-use Rattle.layout_put.proofs.put_context.Reads as put-context-reads
-use Rattle.layout_put.proofs.put_u16.Reads as put-u16-reads
-use Rattle.layout_put.proofs.put_u32.Reads as put-u32-reads
-use Rattle.layout_put_header.proofs.put_coefficients.Reads as put-coefficients-reads
 
 sixteen : (z : tie.Start) → length (z .args .side .coefficients) ≡ 16
 sixteen z = search needs

@@ -4,9 +4,6 @@ use Rattle.c_record_put.proofs.RecordLaws.{sides-put}
 use borrow.Author.Needs.{needs}
 use Rattle.c_record_put.proofs.put_sides.Statement.{statement}
 use Rattle.c_record_put.proofs.put_sides.Tie as tie
-use Rattle.c_record_put.proofs.put_sides.Reads as reads
-use Rattle.c_record_put.proofs.put_sides.Lts as lts
-use Rattle.c_record_put.proofs.put_side.Reads as put-side-reads
 
 first : (z : tie.Start) → length (z .args .left .coefficients) ≡ 16
 first z = search needs

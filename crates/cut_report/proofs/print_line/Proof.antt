@@ -1,42 +1,38 @@
-use mathlib.Core.Path.{sym}
+use mathlib.Core.Path.{_≡_, sym}
 use native.Mathlib.Omega.{arith}
+use lib.ListN.{length}
 use lib.Seq.{length-take-le}
 use borrow.Author.Needs.{needs}
-use Rattle.key_lines.proofs.LineLaws.{put-most}
-use Rattle.cut_report.proofs.ThreeLaws.{line-there}
+use Rattle.cut_report.proofs.ThreeLaws.{not-whole, whole, whole-length}
 use Rattle.cut_report.proofs.print_line.Statement.{statement}
 use Rattle.cut_report.proofs.print_line.Tie as tie
 
-slice-aggregate-put-line : tie.Need-slice-aggregate-put-line
-slice-aggregate-put-line c = search needs
-
-put-line-requires : tie.Need-put-line-requires
-put-line-requires c κs = search needs
-
-array-share-prefix-out : tie.Need-array-share-prefix-out
-array-share-prefix-out c = omega (arith, put-most (c .before .put-line .ensures))
-
-slice-aggregate-write-line : tie.Need-slice-aggregate-write-line
-slice-aggregate-write-line c =
-    let h = put-most (c .before .before .put-line .ensures) in
-    sym (length-take-le _ _ (omega arith))
-
-write-line-requires : tie.Need-write-line-requires
-write-line-requires c κs =
-    let p = c .before .before in
-    let s = p .before .before .before in
-    line-there (s .args .word .now) (s .args .a) (s .args .b) (s .args .c) (search (p .before .before .letters .given, needs)) (search needs) (p .put-line .ensures)
+room : (z : tie.Start) → length (z .args .l .bytes) ≡ 68
+room z = search needs
 
 returns : tie.Need-returns
-returns c = search needs
+returns c = not-whole (c .before .before .args .l) (omega arith)
+
+array-share-prefix-bytes : tie.Need-array-share-prefix-bytes
+array-share-prefix-bytes c = let h = room (c .before .before) in omega arith
+
+slice-aggregate-hand-over : tie.Need-slice-aggregate-hand-over
+slice-aggregate-hand-over c = let h = room (c .before .before .before) in sym (length-take-le _ _ (omega arith))
+
+hand-over-requires : tie.Need-hand-over-requires
+hand-over-requires c κs = sym (whole (c .before .before .before .args .l) (omega arith))
+
+returns-2 : tie.Need-returns-2
+returns-2 c =
+    let z = c .before .before .before .before in
+    whole-length (z .args .l) (room z) (omega arith)
 
 pub print-line-spec : {M : Type 1} → statement M
 print-line-spec =
     tie.close
     (tie.spec
-    slice-aggregate-put-line
-    put-line-requires
-    array-share-prefix-out
-    slice-aggregate-write-line
-    write-line-requires
-    returns)
+    returns
+    array-share-prefix-bytes
+    slice-aggregate-hand-over
+    hand-over-requires
+    returns-2)

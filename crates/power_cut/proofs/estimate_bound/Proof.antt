@@ -1,7 +1,5 @@
 use Rattle.power_cut.proofs.estimate_bound.Statement.{statement}
 use Rattle.power_cut.proofs.estimate_bound.Tie as tie
-use Rattle.power_cut.proofs.estimate_bound.Reads as reads
-use Rattle.power_cut.proofs.estimate_bound.Lts as lts
 use Rattle.power_cut.proofs.Whole.{estimate}
 
 returns : tie.Need-returns

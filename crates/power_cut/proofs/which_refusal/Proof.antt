@@ -1,7 +1,5 @@
 use Rattle.power_cut.proofs.which_refusal.Statement.{statement}
 use Rattle.power_cut.proofs.which_refusal.Tie as tie
-use Rattle.power_cut.proofs.which_refusal.Reads as reads
-use Rattle.power_cut.proofs.which_refusal.Lts as lts
 use Rattle.power_cut.proofs.WhichLaws.{which-refusal}
 
 returns : tie.Need-returns

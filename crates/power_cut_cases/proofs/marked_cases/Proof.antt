@@ -20,8 +20,6 @@ use Rattle.power_cut.specs.PowerCut.{answersOf, writesOf, nthCue}
 use Rattle.power_cut_cases.specs.MarkedForTheTable.{cues, pointsTo, carry, table, MarkedCases}
 use Rattle.power_cut_cases.proofs.marked_cases.Statement.{statement}
 use Rattle.power_cut_cases.proofs.marked_cases.Tie as tie
-use Rattle.power_cut_cases.proofs.marked_cases.Reads as reads
-use Rattle.power_cut_cases.proofs.marked_cases.Lts as lts
 
 marked : MarkedCases
 unfolding filter any sum flatMap same firstIndex be16 u16At be32 u32At beZ16 i16s field P contextBytes contextAt channelBytes channelAt readChannel noChannel readMagic fileHeaderBytes

@@ -1,8 +1,6 @@
 use Rattle.power_cut_moments.proofs.EveryLaws.{every-moment}
 use Rattle.power_cut_moments.proofs.every_moment.Statement.{statement}
 use Rattle.power_cut_moments.proofs.every_moment.Tie as tie
-use Rattle.power_cut_moments.proofs.every_moment.Reads as reads
-use Rattle.power_cut_moments.proofs.every_moment.Lts as lts
 
 returns : tie.Need-returns
 returns c = every-moment

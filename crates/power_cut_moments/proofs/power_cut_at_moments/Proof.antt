@@ -1,8 +1,6 @@
 use Rattle.power_cut_moments.proofs.EveryLaws.{at-moments}
 use Rattle.power_cut_moments.proofs.power_cut_at_moments.Statement.{statement}
 use Rattle.power_cut_moments.proofs.power_cut_at_moments.Tie as tie
-use Rattle.power_cut_moments.proofs.power_cut_at_moments.Reads as reads
-use Rattle.power_cut_moments.proofs.power_cut_at_moments.Lts as lts
 
 returns : tie.Need-returns
 returns c = at-moments

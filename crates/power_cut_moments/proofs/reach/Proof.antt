@@ -6,11 +6,6 @@ use Rattle.power_cut_moments.proofs.MomentLaws.{reached-by, reached-out
 use borrow.Author.Needs.{needs}
 use Rattle.power_cut_moments.proofs.reach.Statement.{statement}
 use Rattle.power_cut_moments.proofs.reach.Tie as tie
-use Rattle.power_cut_moments.proofs.reach.Reads as reads
-use Rattle.power_cut_moments.proofs.reach.Lts as lts
-use Rattle.layout.proofs.fields.inside.Reads as inside-reads
-use Rattle.layout_put.proofs.put_bytes.Reads as put-bytes-reads
-use Rattle.layout.proofs.least.Reads as least-reads
 
 slice-aggregate-put-bytes : tie.Need-slice-aggregate-put-bytes
 slice-aggregate-put-bytes c = sym (length-take-le _ _ (omega (arith, c .before .before .least .ensures)))

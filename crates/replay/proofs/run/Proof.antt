@@ -2,14 +2,6 @@ use Prim.Native.Nat.{_-_, _*_, _≤_}
 use borrow.Author.Needs.{needs}
 use Rattle.replay.proofs.run.Statement.{statement}
 use Rattle.replay.proofs.run.Tie as tie
-use Rattle.replay.proofs.run.Reads as reads
-use Rattle.replay.proofs.run.Lts as lts
-use Rattle.replay.proofs.other_in.Reads as other-in-reads
-use Rattle.layout_read.proofs.number_or_zero.word.Reads as word-reads
-use Rattle.replay_input.proofs.part.Reads as part-reads
-use Rattle.replay_input.proofs.size.Reads as size-reads
-use Rattle.replay_input.proofs.report.report_case.Reads as report-case-reads
-use Rattle.replay.proofs.report_counts.Reads as report-counts-reads
 
 abbrev Inv-loop : tie.InvT-loop
 Inv-loop all at₀ cases₀ others₀ at cases others = (at ≤ 4294967304 * cases) × (cases ≤ 100000) × (others ≤ cases)

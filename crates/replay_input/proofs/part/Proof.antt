@@ -10,9 +10,6 @@ use borrow.Author.Needs.{needs}
 use Rattle.layout.proofs.FieldLaws.{passed, failed}
 use Rattle.replay_input.proofs.part.Statement.{statement}
 use Rattle.replay_input.proofs.part.Tie as tie
-use Rattle.replay_input.proofs.part.Reads as reads
-use Rattle.replay_input.proofs.part.Lts as lts
-use Rattle.layout.proofs.fields.inside.Reads as inside-reads
 
 part-there : (s : List ℕ) (at n : ℕ) → at + n ≤ length s → take (at + n - at) (drop at s) ≡ partAt s at n
 unfolding partAt

@@ -9,10 +9,6 @@ use Rattle.writer_assign_cues.proofs.TakeLaws.{same-part}
 use borrow.Author.Needs.{needs}
 use Rattle.writer_assign_cues.proofs.any_loop.Statement.{statement}
 use Rattle.writer_assign_cues.proofs.any_loop.Tie as tie
-use Rattle.writer_assign_cues.proofs.any_loop.Reads as reads
-use Rattle.writer_assign_cues.proofs.any_loop.Lts as lts
-use Rattle.layout.proofs.least.Reads as least-reads
-use Rattle.writer_assign_cues.proofs.has_loop.Reads as has-loop-reads
 
 table : (s : tie.Start) → length (s .args .cues) ≡ cueLimit
 table s = search needs

@@ -4,8 +4,6 @@ use borrow.Author.Needs.{needs}
 use Rattle.writer_assign_cues.proofs.TakeLaws.{Below, below-start, below-again, below-stop, below-end}
 use Rattle.writer_assign_cues.proofs.below.Statement.{statement}
 use Rattle.writer_assign_cues.proofs.below.Tie as tie
-use Rattle.writer_assign_cues.proofs.below.Reads as reads
-use Rattle.writer_assign_cues.proofs.below.Lts as lts
 
 abbrev Inv-loop : tie.InvT-loop
 Inv-loop from count limit cues k₀ k = Below cues from count limit k

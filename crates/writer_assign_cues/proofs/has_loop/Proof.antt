@@ -7,9 +7,6 @@ use borrow.Author.Needs.{needs}
 use Rattle.writer_assign_cues.proofs.TakeLaws.{loop-found, loop-not, no-loop}
 use Rattle.writer_assign_cues.proofs.has_loop.Statement.{statement}
 use Rattle.writer_assign_cues.proofs.has_loop.Tie as tie
-use Rattle.writer_assign_cues.proofs.has_loop.Reads as reads
-use Rattle.writer_assign_cues.proofs.has_loop.Lts as lts
-use Rattle.writer_assign_cues.proofs.loops.Reads as loops-reads
 
 abbrev Inv-loop : tie.InvT-loop
 Inv-loop count cues k₀ k = (k ≤ count) × (anyLoop (slice 0 count cues) ≡ anyLoop (slice k count cues))

@@ -2,9 +2,6 @@ use Rattle.writer_assign_cues.proofs.PointLaws.{point-put}
 use borrow.Author.Needs.{needs}
 use Rattle.writer_assign_cues.proofs.put_point.Statement.{statement}
 use Rattle.writer_assign_cues.proofs.put_point.Tie as tie
-use Rattle.writer_assign_cues.proofs.put_point.Reads as reads
-use Rattle.writer_assign_cues.proofs.put_point.Lts as lts
-use Rattle.layout_put.proofs.put_u32.Reads as put-u32-reads
 
 returns : tie.Need-returns
 returns c = search point-put

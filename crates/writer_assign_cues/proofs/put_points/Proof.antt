@@ -4,11 +4,6 @@ use borrow.Author.Needs.{needs}
 use Rattle.writer_assign_cues.proofs.PointLaws.{Points, points-start, points-skip, point-room, points-more, points-end}
 use Rattle.writer_assign_cues.proofs.put_points.Statement.{statement}
 use Rattle.writer_assign_cues.proofs.put_points.Tie as tie
-use Rattle.writer_assign_cues.proofs.put_points.Reads as reads
-use Rattle.writer_assign_cues.proofs.put_points.Lts as lts
-use Rattle.writer_assign_cues.proofs.distance.Reads as distance-reads
-use Rattle.writer_assign_cues.proofs.loops.Reads as loops-reads
-use Rattle.writer_assign_cues.proofs.put_point.Reads as put-point-reads
 
 abbrev Inv-loop : tie.InvT-loop
 Inv-loop buf₀ at from to base id cues k₀ p₀ n₀ buf k p n = Points buf₀ at base id cues from to buf p n k

@@ -15,13 +15,6 @@ use Rattle.writer_assign_cues.proofs.PointLaws.{cues-size, no-cues-put,
 use borrow.Author.Needs.{needs}
 use Rattle.writer_assign_cues.proofs.put_taken.Statement.{statement}
 use Rattle.writer_assign_cues.proofs.put_taken.Tie as tie
-use Rattle.writer_assign_cues.proofs.put_taken.Reads as reads
-use Rattle.writer_assign_cues.proofs.put_taken.Lts as lts
-use Rattle.layout.proofs.fields.inside.Reads as inside-reads
-use Rattle.layout.proofs.least.Reads as least-reads
-use Rattle.layout_sizes.proofs.align.Reads as align-reads
-use Rattle.writer_assign_cues.proofs.put_within.Reads as put-within-reads
-use Rattle.writer_assign_cues.proofs.tally.Reads as tally-reads
 
 table : (s : tie.Start) → length (s .args .cues) ≡ cueLimit
 table s = search needs

@@ -3,10 +3,6 @@ use Rattle.writer_assign_cues.proofs.PointLaws.{fill-place, points-room
 use borrow.Author.Needs.{needs}
 use Rattle.writer_assign_cues.proofs.put_within.Statement.{statement}
 use Rattle.writer_assign_cues.proofs.put_within.Tie as tie
-use Rattle.writer_assign_cues.proofs.put_within.Reads as reads
-use Rattle.writer_assign_cues.proofs.put_within.Lts as lts
-use Rattle.layout_put_block.proofs.put_fillers.Reads as put-fillers-reads
-use Rattle.writer_assign_cues.proofs.put_points.Reads as put-points-reads
 
 put-points-requires : tie.Need-put-points-requires
 put-points-requires c κs =

@@ -6,10 +6,6 @@ use Rattle.writer_assign_cues.proofs.TakeLaws.{same-taken, no-cue-left}
 use borrow.Author.Needs.{needs}
 use Rattle.writer_assign_cues.proofs.take.Statement.{statement}
 use Rattle.writer_assign_cues.proofs.take.Tie as tie
-use Rattle.writer_assign_cues.proofs.take.Reads as reads
-use Rattle.writer_assign_cues.proofs.take.Lts as lts
-use Rattle.layout.proofs.least.Reads as least-reads
-use Rattle.writer_assign_cues.proofs.take_within.Reads as take-within-reads
 
 table : (s : tie.Start) → length (s .args .cues) ≡ cueLimit
 table s = search needs

@@ -6,10 +6,6 @@ use native.Mathlib.Omega.{arith}
 use borrow.Author.Needs.{needs}
 use Rattle.writer_assign_cues.proofs.take_within.Statement.{statement}
 use Rattle.writer_assign_cues.proofs.take_within.Tie as tie
-use Rattle.writer_assign_cues.proofs.take_within.Reads as reads
-use Rattle.writer_assign_cues.proofs.take_within.Lts as lts
-use Rattle.writer_assign_cues.proofs.below.Reads as below-reads
-use Rattle.writer_assign_cues.proofs.tally.Reads as tally-reads
 
 returns : tie.Need-returns
 returns c =

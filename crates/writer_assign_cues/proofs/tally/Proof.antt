@@ -4,9 +4,6 @@ use borrow.Author.Needs.{needs}
 use Rattle.writer_assign_cues.proofs.TakeLaws.{Tally, tally-start, tally-loop, tally-point, tally-end}
 use Rattle.writer_assign_cues.proofs.tally.Statement.{statement}
 use Rattle.writer_assign_cues.proofs.tally.Tie as tie
-use Rattle.writer_assign_cues.proofs.tally.Reads as reads
-use Rattle.writer_assign_cues.proofs.tally.Lts as lts
-use Rattle.writer_assign_cues.proofs.loops.Reads as loops-reads
 
 abbrev Inv-loop : tie.InvT-loop
 Inv-loop from to cues k₀ points₀ asked₀ k points asked = Tally cues from to k points asked

@@ -6,16 +6,6 @@ use Rattle.writer_push.proofs.PushLaws.{push-refused, push-accepted, Wo
 use borrow.Author.Needs.{needs}
 use Rattle.writer_push.proofs.push.Statement.{statement}
 use Rattle.writer_push.proofs.push.Tie as tie
-use Rattle.writer_push.proofs.push.Reads as reads
-use Rattle.writer_push.proofs.push.Lts as lts
-use Rattle.writer_push.proofs.put_data.Reads as put-data-reads
-use Rattle.writer_push.proofs.refused.Reads as refused-reads
-use Rattle.writer_push_plan.proofs.block_end.Reads as block-end-reads
-use Rattle.writer_push_plan.proofs.plan_push.Reads as plan-push-reads
-use Rattle.writer_assign_cues.proofs.any_loop.Reads as any-loop-reads
-use Rattle.writer_assign_cues.proofs.put_taken.Reads as put-taken-reads
-use Rattle.writer_assign_cues.proofs.take.Reads as take-reads
-use Rattle.layout_put_block.proofs.put_header.Reads as put-header-reads
 
 -- ---- What is known at the places of the code
 

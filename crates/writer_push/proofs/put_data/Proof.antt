@@ -6,11 +6,6 @@ use Rattle.writer_push.proofs.DataLaws.{mono-put, first-out, second-out
 use borrow.Author.Needs.{needs}
 use Rattle.writer_push.proofs.put_data.Statement.{statement}
 use Rattle.writer_push.proofs.put_data.Tie as tie
-use Rattle.writer_push.proofs.put_data.Reads as reads
-use Rattle.writer_push.proofs.put_data.Lts as lts
-use Rattle.layout.proofs.fields.inside.Reads as inside-reads
-use Rattle.layout_sizes.proofs.align.Reads as align-reads
-use Rattle.layout_put_block.proofs.put_padded.Reads as put-padded-reads
 
 returns : tie.Need-returns
 returns c = search (mono-put, needs)

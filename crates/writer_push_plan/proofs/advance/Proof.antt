@@ -2,9 +2,6 @@ use Rattle.writer.specs.Push.{advanced}
 use borrow.Author.Needs.{needs}
 use Rattle.writer_push_plan.proofs.advance.Statement.{statement}
 use Rattle.writer_push_plan.proofs.advance.Tie as tie
-use Rattle.writer_push_plan.proofs.advance.Reads as reads
-use Rattle.writer_push_plan.proofs.advance.Lts as lts
-use Rattle.writer_push_plan.proofs.first_side.Reads as first-side-reads
 
 returns : tie.Need-returns
 unfolding advanced

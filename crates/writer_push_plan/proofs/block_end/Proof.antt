@@ -3,9 +3,6 @@ use borrow.Author.Needs.{needs}
 use Rattle.writer_push_plan.proofs.PlanLaws.{end-fits, end-over}
 use Rattle.writer_push_plan.proofs.block_end.Statement.{statement}
 use Rattle.writer_push_plan.proofs.block_end.Tie as tie
-use Rattle.writer_push_plan.proofs.block_end.Reads as reads
-use Rattle.writer_push_plan.proofs.block_end.Lts as lts
-use Rattle.layout_sizes.proofs.adpcm_samples.Reads as adpcm-samples-reads
 
 returns : tie.Need-returns
 returns c =

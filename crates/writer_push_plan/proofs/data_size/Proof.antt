@@ -3,9 +3,6 @@ use Rattle.writer_push_plan.proofs.PlanLaws.{left-size, both-size, alig
 use borrow.Author.Needs.{needs}
 use Rattle.writer_push_plan.proofs.data_size.Statement.{statement}
 use Rattle.writer_push_plan.proofs.data_size.Tie as tie
-use Rattle.writer_push_plan.proofs.data_size.Reads as reads
-use Rattle.writer_push_plan.proofs.data_size.Lts as lts
-use Rattle.layout_sizes.proofs.align.Reads as align-reads
 
 add-result : tie.Need-add-result
 add-result c =

@@ -3,9 +3,6 @@ use Rattle.writer_push_plan.proofs.PlanLaws.{cues-end, filled-small}
 use borrow.Author.Needs.{needs}
 use Rattle.writer_push_plan.proofs.data_start.Statement.{statement}
 use Rattle.writer_push_plan.proofs.data_start.Tie as tie
-use Rattle.writer_push_plan.proofs.data_start.Reads as reads
-use Rattle.writer_push_plan.proofs.data_start.Lts as lts
-use Rattle.layout_sizes.proofs.align.Reads as align-reads
 
 add-result : tie.Need-add-result
 add-result c = omega (arith, filled-small (c .before .args .points) _ (c .before .pre) (c .align .ensures))

@@ -2,8 +2,6 @@ use Rattle.writer_push_plan.proofs.PlanLaws.{stays-at, starts-here, sta
 use borrow.Author.Needs.{needs}
 use Rattle.writer_push_plan.proofs.loop_after.Statement.{statement}
 use Rattle.writer_push_plan.proofs.loop_after.Tie as tie
-use Rattle.writer_push_plan.proofs.loop_after.Reads as reads
-use Rattle.writer_push_plan.proofs.loop_after.Lts as lts
 
 returns : tie.Need-returns
 returns c = search (stays-at, needs)

@@ -2,8 +2,6 @@ use Rattle.writer_push_plan.proofs.PlanLaws.{loops-off, loops-asked, lo
 use borrow.Author.Needs.{needs}
 use Rattle.writer_push_plan.proofs.loop_due.Statement.{statement}
 use Rattle.writer_push_plan.proofs.loop_due.Tie as tie
-use Rattle.writer_push_plan.proofs.loop_due.Reads as reads
-use Rattle.writer_push_plan.proofs.loop_due.Lts as lts
 
 returns : tie.Need-returns
 returns c = search (loops-held, needs)

@@ -1,8 +1,6 @@
 use borrow.Author.Needs.{needs}
 use Rattle.writer_push_plan.proofs.next_offset.Statement.{statement}
 use Rattle.writer_push_plan.proofs.next_offset.Tie as tie
-use Rattle.writer_push_plan.proofs.next_offset.Reads as reads
-use Rattle.writer_push_plan.proofs.next_offset.Lts as lts
 
 cast-result : tie.Need-cast-result
 cast-result c = record { fits = c .before .before .before .before .pre .1 _ (c .before .loopat .given .1) }

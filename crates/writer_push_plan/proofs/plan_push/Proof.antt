@@ -2,24 +2,12 @@ use Prim.Native.Nat.{_+_, _≤_}
 use mathlib.Core.Path.{_≡_, ap}
 use native.Mathlib.Omega.{arith}
 use Rattle.layout.specs.Records.{dataAfter}
-use Rattle.layout.specs.Refusals.{lengthLimit, slotLimit}
+use Rattle.layout.specs.Refusals.{lengthLimit}
 use Rattle.writer.specs.Loading.{dataSize}
 use Rattle.writer_push_plan.proofs.PlanLaws.{Passing, passing, size-small, block-small, fits-room, plan-early, plan-many, plan-room, plan-made, loop-near}
 use borrow.Author.Needs.{needs}
 use Rattle.writer_push_plan.proofs.plan_push.Statement.{statement}
 use Rattle.writer_push_plan.proofs.plan_push.Tie as tie
-use Rattle.writer_push_plan.proofs.plan_push.Reads as reads
-use Rattle.writer_push_plan.proofs.plan_push.Lts as lts
-use Rattle.writer_push_refusal.proofs.early_due.Reads as early-due-reads
-use Rattle.writer_push_refusal.proofs.room_due.Reads as room-due-reads
-use Rattle.writer_push_plan.proofs.advance.Reads as advance-reads
-use Rattle.writer_push_plan.proofs.data_size.Reads as data-size-reads
-use Rattle.writer_push_plan.proofs.data_start.Reads as data-start-reads
-use Rattle.writer_push_plan.proofs.loop_after.Reads as loop-after-reads
-use Rattle.writer_push_plan.proofs.loop_due.Reads as loop-due-reads
-use Rattle.writer_push_plan.proofs.next_offset.Reads as next-offset-reads
-use Rattle.writer_push_plan.proofs.no_plan.Reads as no-plan-reads
-use Rattle.writer_push_plan.proofs.second_context.Reads as second-context-reads
 
 -- ---- What is known at the places of the code
 

@@ -3,9 +3,6 @@ use Rattle.writer_push_refusal.proofs.DecideLaws.{decide}
 use borrow.Author.Needs.{needs}
 use Rattle.writer_push_refusal.proofs.coefficients_due.Statement.{statement}
 use Rattle.writer_push_refusal.proofs.coefficients_due.Tie as tie
-use Rattle.writer_push_refusal.proofs.coefficients_due.Reads as reads
-use Rattle.writer_push_refusal.proofs.coefficients_due.Lts as lts
-use Rattle.writer_push_refusal.proofs.same.Reads as same-reads
 
 returns : tie.Need-returns
 unfolding coefficientsDue

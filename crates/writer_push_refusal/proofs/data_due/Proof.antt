@@ -3,9 +3,6 @@ use Rattle.writer_push_refusal.proofs.DecideLaws.{decide-calls}
 use borrow.Author.Needs.{needs}
 use Rattle.writer_push_refusal.proofs.data_due.Statement.{statement}
 use Rattle.writer_push_refusal.proofs.data_due.Tie as tie
-use Rattle.writer_push_refusal.proofs.data_due.Reads as reads
-use Rattle.writer_push_refusal.proofs.data_due.Lts as lts
-use Rattle.layout_sizes.proofs.adpcm_bytes.Reads as adpcm-bytes-reads
 
 returns : tie.Need-returns
 unfolding dataDue

@@ -3,13 +3,6 @@ use Rattle.writer_push_refusal.proofs.GroupLaws.{grouped}
 use borrow.Author.Needs.{needs}
 use Rattle.writer_push_refusal.proofs.early_due.Statement.{statement}
 use Rattle.writer_push_refusal.proofs.early_due.Tie as tie
-use Rattle.writer_push_refusal.proofs.early_due.Reads as reads
-use Rattle.writer_push_refusal.proofs.early_due.Lts as lts
-use Rattle.writer_push_refusal.proofs.coefficients_due.Reads as coefficients-due-reads
-use Rattle.writer_push_refusal.proofs.data_due.Reads as data-due-reads
-use Rattle.writer_push_refusal.proofs.length_due.Reads as length-due-reads
-use Rattle.writer_push_refusal.proofs.rate_due.Reads as rate-due-reads
-use Rattle.writer_push_refusal.proofs.state_due.Reads as state-due-reads
 
 returns : tie.Need-returns
 unfolding earlyDue

@@ -3,11 +3,6 @@ use Rattle.writer_push_refusal.proofs.DecideLaws.{decide-calls}
 use borrow.Author.Needs.{needs}
 use Rattle.writer_push_refusal.proofs.length_due.Statement.{statement}
 use Rattle.writer_push_refusal.proofs.length_due.Tie as tie
-use Rattle.writer_push_refusal.proofs.length_due.Reads as reads
-use Rattle.writer_push_refusal.proofs.length_due.Lts as lts
-use Rattle.layout_sizes.proofs.adpcm_bytes.Reads as adpcm-bytes-reads
-use Rattle.writer_push_refusal.proofs.differ.Reads as differ-reads
-use Rattle.layout_sizes.proofs.size_limit.Reads as size-limit-reads
 
 returns : tie.Need-returns
 unfolding lengthDue

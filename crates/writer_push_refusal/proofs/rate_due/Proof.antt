@@ -3,10 +3,6 @@ use Rattle.writer_push_refusal.proofs.DecideLaws.{decide}
 use borrow.Author.Needs.{needs}
 use Rattle.writer_push_refusal.proofs.rate_due.Statement.{statement}
 use Rattle.writer_push_refusal.proofs.rate_due.Tie as tie
-use Rattle.writer_push_refusal.proofs.rate_due.Reads as reads
-use Rattle.writer_push_refusal.proofs.rate_due.Lts as lts
-use Rattle.writer_push_refusal.proofs.changed.Reads as changed-reads
-use Rattle.writer_push_refusal.proofs.differ.Reads as differ-reads
 
 returns : tie.Need-returns
 unfolding rateDue

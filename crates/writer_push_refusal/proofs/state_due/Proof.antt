@@ -2,8 +2,6 @@ use Rattle.writer.specs.Loading.{stateDue}
 use Rattle.writer_push_refusal.proofs.DecideLaws.{decide}
 use Rattle.writer_push_refusal.proofs.state_due.Statement.{statement}
 use Rattle.writer_push_refusal.proofs.state_due.Tie as tie
-use Rattle.writer_push_refusal.proofs.state_due.Reads as reads
-use Rattle.writer_push_refusal.proofs.state_due.Lts as lts
 
 returns : tie.Need-returns
 unfolding stateDue

@@ -2,9 +2,6 @@ use Rattle.c_cues.proofs.CueBytesLaws.{loop-put, point-put}
 use borrow.Author.Needs.{needs}
 use Rattle.c_cues.proofs.bytes.put_reply.Statement.{statement}
 use Rattle.c_cues.proofs.bytes.put_reply.Tie as tie
-use Rattle.c_cues.proofs.bytes.put_reply.Reads as reads
-use Rattle.c_cues.proofs.bytes.put_reply.Lts as lts
-use Rattle.c_cues.proofs.bytes.put_cue.Reads as put-cue-reads
 
 enum-known-reply : tie.Need-enum-known-reply
 enum-known-reply c = c .match .keys1

@@ -2,9 +2,6 @@ use borrow.Author.Needs.{needs}
 use Rattle.c_opened.proofs.LongLaws.{halves-put}
 use Rattle.c_opened.proofs.fields.put_long.Statement.{statement}
 use Rattle.c_opened.proofs.fields.put_long.Tie as tie
-use Rattle.c_opened.proofs.fields.put_long.Reads as reads
-use Rattle.c_opened.proofs.fields.put_long.Lts as lts
-use Rattle.layout_put.proofs.put_u32.Reads as put-u32-reads
 
 returns : tie.Need-returns
 returns c = halves-put _ _ _ (c .before .before .before .before .before .before .put-u32 .ensures) (c .before .before .put-u322 .ensures)

@@ -2,8 +2,6 @@ use borrow.Author.Needs.{needs}
 use Rattle.c_opened.proofs.KeptReads.{first-lesser, second-lesser}
 use Rattle.c_opened.proofs.opened.least.Statement.{statement}
 use Rattle.c_opened.proofs.opened.least.Tie as tie
-use Rattle.c_opened.proofs.opened.least.Reads as reads
-use Rattle.c_opened.proofs.opened.least.Lts as lts
 
 returns : tie.Need-returns
 returns c = search (first-lesser, needs)

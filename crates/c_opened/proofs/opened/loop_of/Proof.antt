@@ -2,8 +2,6 @@ use borrow.Author.Needs.{needs}
 use Rattle.c_opened.proofs.KeptReads.{no-loop, a-loop}
 use Rattle.c_opened.proofs.opened.loop_of.Statement.{statement}
 use Rattle.c_opened.proofs.opened.loop_of.Tie as tie
-use Rattle.c_opened.proofs.opened.loop_of.Reads as reads
-use Rattle.c_opened.proofs.opened.loop_of.Lts as lts
 
 returns : tie.Need-returns
 returns c = search (no-loop, needs)

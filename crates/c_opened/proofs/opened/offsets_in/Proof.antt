@@ -3,9 +3,6 @@ use Prim.Native.Nat.{_-_}
 use Rattle.c_opened.proofs.KeptReads.{OffsetsRead, offsets-unread, offsets-next, offsets-read}
 use Rattle.c_opened.proofs.opened.offsets_in.Statement.{statement}
 use Rattle.c_opened.proofs.opened.offsets_in.Tie as tie
-use Rattle.c_opened.proofs.opened.offsets_in.Reads as reads
-use Rattle.c_opened.proofs.opened.offsets_in.Lts as lts
-use Rattle.layout_read.proofs.number_or_zero.word.Reads as word-reads
 
 abbrev Inv-loop : tie.InvT-loop
 Inv-loop kept from to offsets₀ i₀ offsets i = OffsetsRead kept from to offsets i

@@ -1,8 +1,6 @@
 use Rattle.c_opened.proofs.ReadBackLaws.{read-back}
 use Rattle.c_opened.proofs.opened.read_back.Statement.{statement}
 use Rattle.c_opened.proofs.opened.read_back.Tie as tie
-use Rattle.c_opened.proofs.opened.read_back.Reads as reads
-use Rattle.c_opened.proofs.opened.read_back.Lts as lts
 
 returns : tie.Need-returns
 returns c = read-back

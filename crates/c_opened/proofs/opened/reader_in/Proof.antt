@@ -1,5 +1,4 @@
 use mathlib.Core.Path.{refl, _∙_}
-use native.Mathlib.Omega.{arith}
 use Rattle.layout.proofs.FieldLaws.{beside-read, beside-number}
 use Rattle.c_opened.proofs.KeptReads.{and-readable, too-few, many-channels, many-blocks, no-left, no-right, part-made}
 use borrow.Author.Needs.{needs}

@@ -1,10 +1,7 @@
 use Rattle.c_opened.proofs.KeptReads.{loop-number}
-use mathlib.Core.Path.{_≡_}
 use borrow.Author.Needs.{needs}
 use Rattle.c_opened.proofs.put.loop_number.Statement.{statement}
 use Rattle.c_opened.proofs.put.loop_number.Tie as tie
-use Rattle.c_opened.proofs.put.loop_number.Reads as reads
-use Rattle.c_opened.proofs.put.loop_number.Lts as lts
 
 returns : tie.Need-returns
 returns c = search needs

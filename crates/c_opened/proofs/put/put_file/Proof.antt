@@ -4,10 +4,6 @@ use Rattle.c_opened.proofs.KeptPuts.{both-channels, one-channel}
 use borrow.Author.Needs.{needs}
 use Rattle.c_opened.proofs.put.put_file.Statement.{statement}
 use Rattle.c_opened.proofs.put.put_file.Tie as tie
-use Rattle.c_opened.proofs.put.put_file.Reads as reads
-use Rattle.c_opened.proofs.put.put_file.Lts as lts
-use Rattle.layout_put.proofs.put_bytes.Reads as put-bytes-reads
-use Rattle.layout_put.proofs.put_fill.Reads as put-fill-reads
 
 slice-aggregate-put-bytes : tie.Need-slice-aggregate-put-bytes
 slice-aggregate-put-bytes c = rw length-take (omega arith)

@@ -4,9 +4,6 @@ use native.Mathlib.Omega.{arith}
 use Rattle.c_opened.proofs.KeptPuts.{OffsetsPut, offsets-none, offsets-more, offsets-all}
 use Rattle.c_opened.proofs.put.put_offsets.Statement.{statement}
 use Rattle.c_opened.proofs.put.put_offsets.Tie as tie
-use Rattle.c_opened.proofs.put.put_offsets.Reads as reads
-use Rattle.c_opened.proofs.put.put_offsets.Lts as lts
-use Rattle.layout_put.proofs.put_u32.Reads as put-u32-reads
 use Rattle.layout.specs.Refusals.{blockLimit}
 
 abbrev Inv-loop : tie.InvT-loop

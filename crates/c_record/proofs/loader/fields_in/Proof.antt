@@ -2,13 +2,6 @@ use Rattle.c_record.specs.KeptWriter.{fieldsIn}
 use borrow.Author.Needs.{needs}
 use Rattle.c_record.proofs.loader.fields_in.Statement.{statement}
 use Rattle.c_record.proofs.loader.fields_in.Tie as tie
-use Rattle.c_record.proofs.loader.fields_in.Reads as reads
-use Rattle.c_record.proofs.loader.fields_in.Lts as lts
-use Rattle.layout_read.proofs.number_or_zero.long.Reads as long-reads
-use Rattle.layout_read.proofs.number_or_zero.word.Reads as word-reads
-use Rattle.c_record.proofs.side_in.Reads as side-in-reads
-use Rattle.c_record.proofs.loader.loop_of.Reads as loop-of-reads
-use Rattle.c_record.proofs.loader.mode_of.Reads as mode-of-reads
 
 returns : tie.Need-returns
 unfolding fieldsIn

@@ -7,10 +7,6 @@ use Rattle.c_record.proofs.KeptLaws.{held-at, held-off, held-auto, held
 use borrow.Author.Needs.{needs}
 use Rattle.c_record.proofs.loader.held_kept.Statement.{statement}
 use Rattle.c_record.proofs.loader.held_kept.Tie as tie
-use Rattle.c_record.proofs.loader.held_kept.Reads as reads
-use Rattle.c_record.proofs.loader.held_kept.Lts as lts
-use Rattle.c_record.proofs.cues_in.Reads as cues-in-reads
-use Rattle.writer_assign_cues.proofs.any_loop.Reads as any-loop-reads
 
 returns : tie.Need-returns
 returns c = search (held-at, needs)

@@ -2,12 +2,6 @@ use Rattle.c_record.proofs.KeptLaws.{bad-places, bad-sums, bad-marks, s
 use borrow.Author.Needs.{needs}
 use Rattle.c_record.proofs.loader.is_sensible.Statement.{statement}
 use Rattle.c_record.proofs.loader.is_sensible.Tie as tie
-use Rattle.c_record.proofs.loader.is_sensible.Reads as reads
-use Rattle.c_record.proofs.loader.is_sensible.Lts as lts
-use Rattle.c_record.proofs.loader.loops_within.Reads as loops-within-reads
-use Rattle.c_record.proofs.loader.marks_good.Reads as marks-good-reads
-use Rattle.c_record.proofs.loader.places_good.Reads as places-good-reads
-use Rattle.c_record.proofs.loader.sums_good.Reads as sums-good-reads
 
 returns : tie.Need-returns
 returns c = search (bad-places, needs)

@@ -2,8 +2,6 @@ use Rattle.c_record.proofs.KeptLaws.{loop-nowhere, loop-at}
 use borrow.Author.Needs.{needs}
 use Rattle.c_record.proofs.loader.loop_of.Statement.{statement}
 use Rattle.c_record.proofs.loader.loop_of.Tie as tie
-use Rattle.c_record.proofs.loader.loop_of.Reads as reads
-use Rattle.c_record.proofs.loader.loop_of.Lts as lts
 
 returns : tie.Need-returns
 returns c = search (loop-nowhere, needs)

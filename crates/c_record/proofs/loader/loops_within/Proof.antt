@@ -2,8 +2,6 @@ use Rattle.c_record.proofs.KeptLaws.{within-at}
 use borrow.Author.Needs.{needs}
 use Rattle.c_record.proofs.loader.loops_within.Statement.{statement}
 use Rattle.c_record.proofs.loader.loops_within.Tie as tie
-use Rattle.c_record.proofs.loader.loops_within.Reads as reads
-use Rattle.c_record.proofs.loader.loops_within.Lts as lts
 
 returns : tie.Need-returns
 returns c = search needs

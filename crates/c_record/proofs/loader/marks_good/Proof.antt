@@ -2,8 +2,6 @@ use Rattle.c_record.proofs.KeptLaws.{marks-last, marks-open}
 use borrow.Author.Needs.{needs}
 use Rattle.c_record.proofs.loader.marks_good.Statement.{statement}
 use Rattle.c_record.proofs.loader.marks_good.Tie as tie
-use Rattle.c_record.proofs.loader.marks_good.Reads as reads
-use Rattle.c_record.proofs.loader.marks_good.Lts as lts
 
 returns : tie.Need-returns
 returns c = search (marks-last, needs)

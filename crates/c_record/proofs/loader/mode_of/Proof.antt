@@ -2,8 +2,6 @@ use Rattle.c_record.proofs.KeptLaws.{mode-off, mode-on, mode-auto}
 use borrow.Author.Needs.{needs}
 use Rattle.c_record.proofs.loader.mode_of.Statement.{statement}
 use Rattle.c_record.proofs.loader.mode_of.Tie as tie
-use Rattle.c_record.proofs.loader.mode_of.Reads as reads
-use Rattle.c_record.proofs.loader.mode_of.Lts as lts
 
 returns : tie.Need-returns
 returns c = search (mode-off, needs)

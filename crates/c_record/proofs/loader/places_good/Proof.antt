@@ -2,8 +2,6 @@ use Rattle.c_record.proofs.KeptLaws.{slot-large, offset-past, count-lar
 use borrow.Author.Needs.{needs}
 use Rattle.c_record.proofs.loader.places_good.Statement.{statement}
 use Rattle.c_record.proofs.loader.places_good.Tie as tie
-use Rattle.c_record.proofs.loader.places_good.Reads as reads
-use Rattle.c_record.proofs.loader.places_good.Lts as lts
 
 returns : tie.Need-returns
 returns c = search (slot-large, needs)

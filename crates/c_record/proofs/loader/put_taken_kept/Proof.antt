@@ -1,12 +1,8 @@
-use mathlib.Core.Path.{ap, _∙_}
+use mathlib.Core.Path.{_∙_}
 use Rattle.writer_assign_cues.proofs.PointLaws.{no-points}
 use borrow.Author.Needs.{needs}
 use Rattle.c_record.proofs.loader.put_taken_kept.Statement.{statement}
 use Rattle.c_record.proofs.loader.put_taken_kept.Tie as tie
-use Rattle.c_record.proofs.loader.put_taken_kept.Reads as reads
-use Rattle.c_record.proofs.loader.put_taken_kept.Lts as lts
-use Rattle.c_record.proofs.cues_in.Reads as cues-in-reads
-use Rattle.writer_assign_cues.proofs.put_taken.Reads as put-taken-reads
 
 returns : tie.Need-returns
 returns c = let s = c .before .before .before in no-points _ _ _ _ _ _ (s .pre .1 .0 .counted) (c .if1 .taken)

@@ -2,11 +2,6 @@ use Rattle.c_record.proofs.KeptLaws.{too-short, holds-record, holds-non
 use borrow.Author.Needs.{needs}
 use Rattle.c_record.proofs.loader.stream_in.Statement.{statement}
 use Rattle.c_record.proofs.loader.stream_in.Tie as tie
-use Rattle.c_record.proofs.loader.stream_in.Reads as reads
-use Rattle.c_record.proofs.loader.stream_in.Lts as lts
-use Rattle.c_record.proofs.loader.fields_in.Reads as fields-in-reads
-use Rattle.c_record.proofs.loader.is_sensible.Reads as is-sensible-reads
-use Rattle.c_record.proofs.loader.no_stream.Reads as no-stream-reads
 
 returns : tie.Need-returns
 returns c = search (too-short, needs)

@@ -2,8 +2,6 @@ use Rattle.c_record.proofs.KeptLaws.{blocks-many, base-large, sum-large
 use borrow.Author.Needs.{needs}
 use Rattle.c_record.proofs.loader.sums_good.Statement.{statement}
 use Rattle.c_record.proofs.loader.sums_good.Tie as tie
-use Rattle.c_record.proofs.loader.sums_good.Reads as reads
-use Rattle.c_record.proofs.loader.sums_good.Lts as lts
 
 returns : tie.Need-returns
 returns c = search (blocks-many, needs)

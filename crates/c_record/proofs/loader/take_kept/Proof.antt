@@ -3,10 +3,6 @@ use Rattle.writer_assign_cues.proofs.TakeLaws.{none-taken}
 use borrow.Author.Needs.{needs}
 use Rattle.c_record.proofs.loader.take_kept.Statement.{statement}
 use Rattle.c_record.proofs.loader.take_kept.Tie as tie
-use Rattle.c_record.proofs.loader.take_kept.Reads as reads
-use Rattle.c_record.proofs.loader.take_kept.Lts as lts
-use Rattle.c_record.proofs.cues_in.Reads as cues-in-reads
-use Rattle.writer_assign_cues.proofs.take.Reads as take-reads
 
 returns : tie.Need-returns
 returns c = none-taken _ _ _ _ _ (c .before .before .pre .0) (c .if1 .taken)

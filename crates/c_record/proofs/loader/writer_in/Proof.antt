@@ -1,15 +1,8 @@
-use mathlib.Core.Path.{_∙_}
 use lib.Dec.{lit<}
 use Rattle.c_record.proofs.KeptLaws.{stream-few}
 use borrow.Author.Needs.{needs}
 use Rattle.c_record.proofs.loader.writer_in.Statement.{statement}
 use Rattle.c_record.proofs.loader.writer_in.Tie as tie
-use Rattle.c_record.proofs.loader.writer_in.Reads as reads
-use Rattle.c_record.proofs.loader.writer_in.Lts as lts
-use Rattle.c_record.proofs.cues_in.Reads as cues-in-reads
-use Rattle.c_record.proofs.loader.setup_of.Reads as setup-of-reads
-use Rattle.c_record.proofs.loader.stream_in.Reads as stream-in-reads
-use Rattle.c_record.proofs.loader.stream_of.Reads as stream-of-reads
 
 cues-in-requires : tie.Need-cues-in-requires
 cues-in-requires c κs = (lit< tt, rw (c .before .before .stream-in .ensures) (stream-few _))

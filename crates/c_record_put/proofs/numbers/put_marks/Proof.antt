@@ -2,13 +2,6 @@ use Rattle.c_record_put.proofs.NumberLaws.{marks-put}
 use borrow.Author.Needs.{needs}
 use Rattle.c_record_put.proofs.numbers.put_marks.Statement.{statement}
 use Rattle.c_record_put.proofs.numbers.put_marks.Tie as tie
-use Rattle.c_record_put.proofs.numbers.put_marks.Reads as reads
-use Rattle.c_record_put.proofs.numbers.put_marks.Lts as lts
-use Rattle.c_record_put.proofs.numbers.flag.Reads as flag-reads
-use Rattle.c_record_put.proofs.numbers.loop_number.Reads as loop-number-reads
-use Rattle.c_record_put.proofs.numbers.mode_number.Reads as mode-number-reads
-use Rattle.c_opened.proofs.fields.put_long.Reads as put-long-reads
-use Rattle.layout_put.proofs.put_u32.Reads as put-u32-reads
 
 returns : tie.Need-returns
 returns c =

@@ -2,11 +2,6 @@ use Rattle.c_record_put.proofs.NumberLaws.{numbers-put}
 use borrow.Author.Needs.{needs}
 use Rattle.c_record_put.proofs.numbers.put_numbers.Statement.{statement}
 use Rattle.c_record_put.proofs.numbers.put_numbers.Tie as tie
-use Rattle.c_record_put.proofs.numbers.put_numbers.Reads as reads
-use Rattle.c_record_put.proofs.numbers.put_numbers.Lts as lts
-use Rattle.c_record_put.proofs.numbers.put_marks.Reads as put-marks-reads
-use Rattle.c_record_put.proofs.numbers.put_places.Reads as put-places-reads
-use Rattle.c_record_put.proofs.numbers.put_sums.Reads as put-sums-reads
 
 returns : tie.Need-returns
 returns c = numbers-put _ _ _ (c .before .before .before .before .before .before .before .before .before .before .before .before .before .args .s)

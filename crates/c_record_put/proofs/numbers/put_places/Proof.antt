@@ -2,9 +2,6 @@ use Rattle.c_record_put.proofs.NumberLaws.{places-put}
 use borrow.Author.Needs.{needs}
 use Rattle.c_record_put.proofs.numbers.put_places.Statement.{statement}
 use Rattle.c_record_put.proofs.numbers.put_places.Tie as tie
-use Rattle.c_record_put.proofs.numbers.put_places.Reads as reads
-use Rattle.c_record_put.proofs.numbers.put_places.Lts as lts
-use Rattle.c_opened.proofs.fields.put_long.Reads as put-long-reads
 
 returns : tie.Need-returns
 returns c =

@@ -2,9 +2,6 @@ use Rattle.c_record_put.proofs.NumberLaws.{sums-put}
 use borrow.Author.Needs.{needs}
 use Rattle.c_record_put.proofs.numbers.put_sums.Statement.{statement}
 use Rattle.c_record_put.proofs.numbers.put_sums.Tie as tie
-use Rattle.c_record_put.proofs.numbers.put_sums.Reads as reads
-use Rattle.c_record_put.proofs.numbers.put_sums.Lts as lts
-use Rattle.c_opened.proofs.fields.put_long.Reads as put-long-reads
 
 returns : tie.Need-returns
 returns c =

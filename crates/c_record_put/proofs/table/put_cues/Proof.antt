@@ -4,9 +4,6 @@ use borrow.Author.Needs.{needs}
 use Rattle.c_record_put.proofs.TableLaws.{Entries, entries-none, entries-more, entries-all}
 use Rattle.c_record_put.proofs.table.put_cues.Statement.{statement}
 use Rattle.c_record_put.proofs.table.put_cues.Tie as tie
-use Rattle.c_record_put.proofs.table.put_cues.Reads as reads
-use Rattle.c_record_put.proofs.table.put_cues.Lts as lts
-use Rattle.c_record_put.proofs.table.put_cue.Reads as put-cue-reads
 
 abbrev Inv-loop : tie.InvT-loop
 Inv-loop buf₀ at n cues i₀ buf i = Entries buf₀ at cues n buf i

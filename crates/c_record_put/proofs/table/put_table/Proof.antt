@@ -4,10 +4,6 @@ use Rattle.c_record_put.specs.KeptTable.{tablePut}
 use mathlib.Core.Path.{_≡_}
 use Rattle.c_record_put.proofs.table.put_table.Statement.{statement}
 use Rattle.c_record_put.proofs.table.put_table.Tie as tie
-use Rattle.c_record_put.proofs.table.put_table.Reads as reads
-use Rattle.c_record_put.proofs.table.put_table.Lts as lts
-use Rattle.c_record_put.proofs.table.put_cues.Reads as put-cues-reads
-use Rattle.c_opened.proofs.fields.put_long.Reads as put-long-reads
 
 returns : tie.Need-returns
 returns c =

@@ -25,11 +25,11 @@ returns : tie.Need-returns Inv-loop μ-loop
 returns c = to-log (c .before .before .before .before .before .before .before .before .before .before .before .before .before .args .j)
     (now (c .before .before .before .before .before .before .before .before .before .before .before .before .before .args .logged))
     (run-other (c .before .before .before .before .before .before .before .before .loop .inv) (c .before .before .before .before .before .before .before .loop-test .taken) (search needs)
-    (c .before .before .before .before .before .next-moment .ensures) (not-true _ (c .if1 .taken)) (c .before .same-listing .ensures .1))
+    (c .before .before .before .before .before .next-moment .ensures) (not-true _ (c .if1 .taken)) (c .before .same-listing .ensures))
 
 loop-again : tie.Need-loop-again Inv-loop μ-loop
 loop-again c = going-more (c .before .before .before .before .before .before .before .before .loop .inv) (c .before .before .before .before .before .before .before .loop-test .taken)
-    (search needs) (c .before .before .before .before .before .next-moment .ensures) (not-false _ (c .if1 .left)) (c .before .same-listing .ensures .0)
+    (search needs) (c .before .before .before .before .before .next-moment .ensures) (not-false _ (c .if1 .left)) (c .before .same-listing .ensures)
 
 same-length-2 : tie.Need-same-length-2 Inv-loop μ-loop
 same-length-2 c = c .before .loop .inv .long

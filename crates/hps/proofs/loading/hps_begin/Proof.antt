@@ -6,9 +6,6 @@ use Rattle.hps.proofs.ExportedLaws.{given, left, past}
 use borrow.Author.Needs.{needs}
 use Rattle.hps.proofs.loading.hps_begin.Statement.{statement}
 use Rattle.hps.proofs.loading.hps_begin.Tie as tie
-use Rattle.hps.proofs.loading.hps_begin.Reads as reads
-use Rattle.hps.proofs.loading.hps_begin.Lts as lts
-use Rattle.c_loading.proofs.begin_kept.Reads as begin-kept-reads
 use Rattle.c_record.specs.KeptSides.{loaderSize}
 
 returns : tie.Need-returns

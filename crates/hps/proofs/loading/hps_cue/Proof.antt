@@ -8,10 +8,6 @@ use Rattle.c_loading.specs.KeptLoading.{onKept, givenAfter, bytesCued}
 use borrow.Author.Needs.{needs}
 use Rattle.hps.proofs.loading.hps_cue.Statement.{statement}
 use Rattle.hps.proofs.loading.hps_cue.Tie as tie
-use Rattle.hps.proofs.loading.hps_cue.Reads as reads
-use Rattle.hps.proofs.loading.hps_cue.Lts as lts
-use Rattle.c_loading.proofs.cue_kept.Reads as cue-kept-reads
-use Rattle.c_record.proofs.kind_of.Reads as kind-of-reads
 
 returns : tie.Need-returns
 returns c = rw (lt-ltb 2 (c .before .before .args .kind) (c .if1 .taken)) (refl, refl, refl)

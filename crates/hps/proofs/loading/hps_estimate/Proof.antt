@@ -2,9 +2,6 @@ use borrow.Author.Needs.{needs}
 use Rattle.hps.proofs.ExportedLaws.{estimate-refused, estimate-left, estimate-accepted, estimate-given}
 use Rattle.hps.proofs.loading.hps_estimate.Statement.{statement}
 use Rattle.hps.proofs.loading.hps_estimate.Tie as tie
-use Rattle.hps.proofs.loading.hps_estimate.Reads as reads
-use Rattle.hps.proofs.loading.hps_estimate.Lts as lts
-use Rattle.writer_estimate.proofs.estimate.Reads as estimate-reads
 
 returns : tie.Need-returns
 returns c = search (estimate-refused, estimate-left, needs)

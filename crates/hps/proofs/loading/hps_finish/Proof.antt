@@ -6,9 +6,6 @@ use Rattle.hps.proofs.ExportedLaws.{given, left, past}
 use borrow.Author.Needs.{needs}
 use Rattle.hps.proofs.loading.hps_finish.Statement.{statement}
 use Rattle.hps.proofs.loading.hps_finish.Tie as tie
-use Rattle.hps.proofs.loading.hps_finish.Reads as reads
-use Rattle.hps.proofs.loading.hps_finish.Lts as lts
-use Rattle.c_loading.proofs.finish_kept.Reads as finish-kept-reads
 
 returns : tie.Need-returns
 returns c =

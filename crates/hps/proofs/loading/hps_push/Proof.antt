@@ -11,12 +11,6 @@ use Rattle.hps.proofs.ExportedLaws.{given, left, past, long-sides, shor
 use borrow.Author.Needs.{needs}
 use Rattle.hps.proofs.loading.hps_push.Statement.{statement}
 use Rattle.hps.proofs.loading.hps_push.Tie as tie
-use Rattle.hps.proofs.loading.hps_push.Reads as reads
-use Rattle.hps.proofs.loading.hps_push.Lts as lts
-use Rattle.c_record.proofs.sides_short.Reads as sides-short-reads
-use Rattle.c_push.proofs.without_side.Reads as without-side-reads
-use Rattle.c_push.proofs.push_kept.Reads as push-kept-reads
-use Rattle.c_record.proofs.side_in.Reads as side-in-reads
 
 -- ---- What is known after push_kept
 

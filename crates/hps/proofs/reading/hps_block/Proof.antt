@@ -8,11 +8,6 @@ use Rattle.hps.proofs.KeptCalls.{without, with-it, whole-block, block-w
 use borrow.Author.Needs.{needs}
 use Rattle.hps.proofs.reading.hps_block.Statement.{statement}
 use Rattle.hps.proofs.reading.hps_block.Tie as tie
-use Rattle.hps.proofs.reading.hps_block.Reads as reads
-use Rattle.hps.proofs.reading.hps_block.Lts as lts
-use Rattle.reader_block.proofs.read_block.Reads as read-block-reads
-use Rattle.hps.proofs.reading.past.Reads as past-reads
-use Rattle.c_opened.proofs.opened.reader_in.Reads as reader-in-reads
 
 past-requires : tie.Need-past-requires
 past-requires c κs = tt

@@ -1,8 +1,5 @@
 use Rattle.hps.proofs.reading.hps_cues.Statement.{statement}
 use Rattle.hps.proofs.reading.hps_cues.Tie as tie
-use Rattle.hps.proofs.reading.hps_cues.Reads as reads
-use Rattle.hps.proofs.reading.hps_cues.Lts as lts
-use Rattle.c_cues.proofs.cue_calls.Reads as cue-calls-reads
 
 cue-calls-requires : tie.Need-cue-calls-requires
 cue-calls-requires c κs = tt

@@ -4,10 +4,6 @@ use Rattle.c_opened.specs.KeptReader.{readerIn}
 use Rattle.hps.proofs.KeptCalls.{without, with-it, whole-sum, sum-without, sum-refused, sum-given}
 use Rattle.hps.proofs.reading.hps_remaining.Statement.{statement}
 use Rattle.hps.proofs.reading.hps_remaining.Tie as tie
-use Rattle.hps.proofs.reading.hps_remaining.Reads as reads
-use Rattle.hps.proofs.reading.hps_remaining.Lts as lts
-use Rattle.reader_remaining.proofs.data_remaining.Reads as data-remaining-reads
-use Rattle.c_opened.proofs.opened.reader_in.Reads as reader-in-reads
 
 reader-in-requires : tie.Need-reader-in-requires
 reader-in-requires c κs = tt

@@ -1,7 +1,5 @@
-use Prim.Native.Nat.{ℕ}
 use mathlib.Core.Path.{sym, ap, _∙_}
-use lib.ListN.{length, set, length-set}
-use Rattle.layout.specs.Puts.{putAt}
+use lib.ListN.{length, length-set}
 use native.Mathlib.Omega.{arith}
 use borrow.Author.Needs.{needs}
 use Rattle.layout.proofs.FieldLaws.{passed, failed}

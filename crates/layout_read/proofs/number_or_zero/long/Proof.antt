@@ -8,8 +8,6 @@ use Rattle.layout.proofs.FieldLaws.{passed, failed}
 use Rattle.layout_read.proofs.NumberLaws.{long-in, long-out}
 use Rattle.layout_read.proofs.number_or_zero.long.Statement.{statement}
 use Rattle.layout_read.proofs.number_or_zero.long.Tie as tie
-use Rattle.layout_read.proofs.number_or_zero.long.Reads as reads
-use Rattle.layout_read.proofs.number_or_zero.long.Lts as lts
 
 room : (c : tie.Then1) → c .before .before .before .args .at + 8 ≤ length (now (c .before .before .before .args .s))
 room c = passed (c .before .inside .ensures) (c .if1 .taken)

@@ -3,11 +3,6 @@ use lib.Seq.{length-take-le}
 use borrow.Author.Needs.{needs}
 use Rattle.replay.proofs.loading.lend.Statement.{statement}
 use Rattle.replay.proofs.loading.lend.Tie as tie
-use Rattle.replay.proofs.loading.lend.Reads as reads
-use Rattle.replay.proofs.loading.lend.Lts as lts
-use Rattle.layout.proofs.least.Reads as least-reads
-use Rattle.replay.proofs.loading.run_call.Reads as run-call-reads
-use Rattle.replay_input.proofs.size.Reads as size-reads
 
 slice-relend-prefix-run-call : tie.Need-slice-relend-prefix-run-call
 slice-relend-prefix-run-call c = search needs

@@ -6,11 +6,6 @@ use borrow.Author.Needs.{needs}
 use Rattle.writer.specs.Calls.{Good}
 use Rattle.replay.proofs.loading.other_step.Statement.{statement}
 use Rattle.replay.proofs.loading.other_step.Tie as tie
-use Rattle.replay.proofs.loading.other_step.Reads as reads
-use Rattle.replay.proofs.loading.other_step.Lts as lts
-use Rattle.replay.proofs.loading.run_step.Reads as run-step-reads
-use Rattle.replay_input.proofs.part.Reads as part-reads
-use Rattle.replay_input.proofs.size.Reads as size-reads
 
 abbrev Inv-loop : tie.InvT-loop
 Inv-loop body slot₀ lent₀ w₀ at₀ steps₀ slot lent w at steps = Good w × ((length slot ≡ length slot₀) × (length lent ≡ length lent₀) × (steps ≤ 3000) × (at ≤ 4294967300 * steps))

@@ -2,11 +2,6 @@ use Prim.Native.Nat.{_-_, _≤_}
 use borrow.Author.Needs.{needs}
 use Rattle.replay.proofs.slot.is_info.Statement.{statement}
 use Rattle.replay.proofs.slot.is_info.Tie as tie
-use Rattle.replay.proofs.slot.is_info.Reads as reads
-use Rattle.replay.proofs.slot.is_info.Lts as lts
-use Rattle.replay.proofs.slot.is_context.Reads as is-context-reads
-use Rattle.layout_read.proofs.number_or_zero.half.Reads as half-reads
-use Rattle.layout_read.proofs.number_or_zero.signed.Reads as signed-reads
 
 abbrev Inv-loop : tie.InvT-loop
 Inv-loop gain context want at coefficients i₀ i = i ≤ 16

@@ -6,13 +6,6 @@ use borrow.Author.Needs.{needs}
 use Rattle.key_listing.proofs.LineLaws.{filled-fits, filled-inside, filled-prefix}
 use Rattle.replay.proofs.slot.is_listing.Statement.{statement}
 use Rattle.replay.proofs.slot.is_listing.Tie as tie
-use Rattle.replay.proofs.slot.is_listing.Reads as reads
-use Rattle.replay.proofs.slot.is_listing.Lts as lts
-use Rattle.check.proofs.same.Reads as same-reads
-use Rattle.io.proofs.large_buffer.Reads as large-buffer-reads
-use Rattle.key_listing.proofs.listing.fill.Reads as fill-reads
-use Rattle.key_listing.proofs.start.start_listing.Reads as start-listing-reads
-use Rattle.replay_input.proofs.part.Reads as part-reads
 
 abbrev Inv-loop : tie.InvT-loop
 Inv-loop s want r stage₀ out₀ done₀ turns₀ stage out done turns = (length out ≡ 65536) × (turns ≤ 100) × (done ≤ 65536 * turns)

@@ -2,11 +2,6 @@ use Prim.Native.Nat.{_+_, _-_, _*_, _≤_}
 use borrow.Author.Needs.{needs}
 use Rattle.replay.proofs.slot.other_answer.Statement.{statement}
 use Rattle.replay.proofs.slot.other_answer.Tie as tie
-use Rattle.replay.proofs.slot.other_answer.Reads as reads
-use Rattle.replay.proofs.slot.other_answer.Lts as lts
-use Rattle.replay.proofs.slot.is_answer.Reads as is-answer-reads
-use Rattle.replay_input.proofs.part.Reads as part-reads
-use Rattle.replay_input.proofs.size.Reads as size-reads
 
 abbrev Inv-loop : tie.InvT-loop
 Inv-loop s r body from at₀ turns₀ at turns = (at ≤ 17179869184 + 4294967384 * turns) × (turns ≤ 1030)

@@ -3,10 +3,6 @@ use borrow.Author.Tests.{ne-eqb}
 use borrow.Author.Needs.{needs}
 use Rattle.replay_input.proofs.report.report_case.Statement.{statement}
 use Rattle.replay_input.proofs.report.report_case.Tie as tie
-use Rattle.replay_input.proofs.report.report_case.Reads as reads
-use Rattle.replay_input.proofs.report.report_case.Lts as lts
-use Rattle.io.proofs.write_all.Reads as write-all-reads
-use Rattle.replay_input.proofs.report.print_count.Reads as print-count-reads
 
 returns : tie.Need-returns
 returns c = (rw (c .if1 .taken), omega arith)

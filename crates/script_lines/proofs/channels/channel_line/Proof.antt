@@ -4,13 +4,6 @@ use Rattle.script_lines.proofs.ChannelLaws.{channel-read}
 use borrow.Author.Needs.{needs}
 use Rattle.script_lines.proofs.channels.channel_line.Statement.{statement}
 use Rattle.script_lines.proofs.channels.channel_line.Tie as tie
-use Rattle.script_lines.proofs.channels.channel_line.Reads as reads
-use Rattle.script_lines.proofs.channels.channel_line.Lts as lts
-use Rattle.script_lines.proofs.channels.coefficients_of.Reads as coefficients-of-reads
-use Rattle.script_lines.proofs.channels.context_of.Reads as context-of-reads
-use Rattle.script_lines.proofs.channels.data_word.Reads as data-word-reads
-use Rattle.script_lines.proofs.lines.decimal_at.Reads as decimal-at-reads
-use Rattle.script_words.proofs.hex.is_data.Reads as is-data-reads
 
 returns : tie.Need-returns
 returns c =

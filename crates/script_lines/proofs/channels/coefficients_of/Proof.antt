@@ -5,9 +5,6 @@ use borrow.Author.Needs.{needs}
 use Rattle.script_lines.proofs.ChannelLaws.{Reading, read-none, read-more, read-all}
 use Rattle.script_lines.proofs.channels.coefficients_of.Statement.{statement}
 use Rattle.script_lines.proofs.channels.coefficients_of.Tie as tie
-use Rattle.script_lines.proofs.channels.coefficients_of.Reads as reads
-use Rattle.script_lines.proofs.channels.coefficients_of.Lts as lts
-use Rattle.script_lines.proofs.lines.small_at.Reads as small-at-reads
 
 abbrev Inv-loop : tie.InvT-loop
 Inv-loop line values₀ good₀ i₀ values good i = Reading line values good i

@@ -4,10 +4,6 @@ use Rattle.script_lines.proofs.ChannelLaws.{context-read}
 use borrow.Author.Needs.{needs}
 use Rattle.script_lines.proofs.channels.context_of.Statement.{statement}
 use Rattle.script_lines.proofs.channels.context_of.Tie as tie
-use Rattle.script_lines.proofs.channels.context_of.Reads as reads
-use Rattle.script_lines.proofs.channels.context_of.Lts as lts
-use Rattle.script_lines.proofs.lines.decimal_at.Reads as decimal-at-reads
-use Rattle.script_lines.proofs.lines.small_at.Reads as small-at-reads
 
 returns : tie.Need-returns
 returns c =

@@ -3,12 +3,6 @@ use Rattle.script_lines.specs.Lines.{lineKind}
 use borrow.Author.Needs.{needs}
 use Rattle.script_lines.proofs.kinds.kind_of.Statement.{statement}
 use Rattle.script_lines.proofs.kinds.kind_of.Tie as tie
-use Rattle.script_lines.proofs.kinds.kind_of.Reads as reads
-use Rattle.script_lines.proofs.kinds.kind_of.Lts as lts
-use Rattle.script_lines.proofs.kinds.named.Reads as named-reads
-use Rattle.layout_read.proofs.number_or_zero.word.Reads as number-reads
-use Rattle.script_words.proofs.text.word.Reads as word-reads
-use Rattle.script_words.proofs.text.word_count.Reads as word-count-reads
 
 returns : tie.Need-returns
 unfolding lineKind

@@ -3,9 +3,6 @@ use Rattle.script_lines.specs.Lines.{nameSaid}
 use borrow.Author.Needs.{needs}
 use Rattle.script_lines.proofs.kinds.named.Statement.{statement}
 use Rattle.script_lines.proofs.kinds.named.Tie as tie
-use Rattle.script_lines.proofs.kinds.named.Reads as reads
-use Rattle.script_lines.proofs.kinds.named.Lts as lts
-use Rattle.script_lines.proofs.kinds.with_words.Reads as with-words-reads
 
 returns : tie.Need-returns
 unfolding nameSaid

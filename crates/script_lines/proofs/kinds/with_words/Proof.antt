@@ -1,8 +1,6 @@
 use borrow.Author.Tests.{eq-eqb, ne-eqb}
 use Rattle.script_lines.proofs.kinds.with_words.Statement.{statement}
 use Rattle.script_lines.proofs.kinds.with_words.Tie as tie
-use Rattle.script_lines.proofs.kinds.with_words.Reads as reads
-use Rattle.script_lines.proofs.kinds.with_words.Lts as lts
 
 returns : tie.Need-returns
 returns c = rw (eq-eqb _ _ (c .if1 .taken))

@@ -3,10 +3,6 @@ use Rattle.layout.proofs.Cases.{both}
 use borrow.Author.Needs.{needs}
 use Rattle.script_lines.proofs.lines.begin_line.Statement.{statement}
 use Rattle.script_lines.proofs.lines.begin_line.Tie as tie
-use Rattle.script_lines.proofs.lines.begin_line.Reads as reads
-use Rattle.script_lines.proofs.lines.begin_line.Lts as lts
-use Rattle.script_lines.proofs.lines.decimal_at.Reads as decimal-at-reads
-use Rattle.script_lines.proofs.lines.mode_of.Reads as mode-of-reads
 
 returns : tie.Need-returns
 unfolding beginLine

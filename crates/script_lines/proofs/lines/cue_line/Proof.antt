@@ -4,10 +4,6 @@ use Rattle.script_lines.proofs.LineLaws.{point-line}
 use borrow.Author.Needs.{needs}
 use Rattle.script_lines.proofs.lines.cue_line.Statement.{statement}
 use Rattle.script_lines.proofs.lines.cue_line.Tie as tie
-use Rattle.script_lines.proofs.lines.cue_line.Reads as reads
-use Rattle.script_lines.proofs.lines.cue_line.Lts as lts
-use Rattle.script_lines.proofs.lines.cue_named.Reads as cue-named-reads
-use Rattle.script_lines.proofs.lines.range_line.Reads as range-line-reads
 
 returns : tie.Need-returns
 unfolding cueSaid

@@ -3,9 +3,6 @@ use Rattle.layout.proofs.Cases.{both}
 use borrow.Author.Needs.{needs}
 use Rattle.script_lines.proofs.lines.cue_named.Statement.{statement}
 use Rattle.script_lines.proofs.lines.cue_named.Tie as tie
-use Rattle.script_lines.proofs.lines.cue_named.Reads as reads
-use Rattle.script_lines.proofs.lines.cue_named.Lts as lts
-use Rattle.script_lines.proofs.lines.decimal_at.Reads as decimal-at-reads
 
 returns : tie.Need-returns
 unfolding cueNamed

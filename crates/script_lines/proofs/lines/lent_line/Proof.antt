@@ -2,9 +2,6 @@ use Rattle.script_lines.specs.Lines.{lentLine}
 use borrow.Author.Needs.{needs}
 use Rattle.script_lines.proofs.lines.lent_line.Statement.{statement}
 use Rattle.script_lines.proofs.lines.lent_line.Tie as tie
-use Rattle.script_lines.proofs.lines.lent_line.Reads as reads
-use Rattle.script_lines.proofs.lines.lent_line.Lts as lts
-use Rattle.script_lines.proofs.lines.decimal_at.Reads as decimal-at-reads
 
 returns : tie.Need-returns
 unfolding lentLine

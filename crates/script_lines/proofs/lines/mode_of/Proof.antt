@@ -1,8 +1,6 @@
 use borrow.Author.Tests.{ne-eqb}
 use Rattle.script_lines.proofs.lines.mode_of.Statement.{statement}
 use Rattle.script_lines.proofs.lines.mode_of.Tie as tie
-use Rattle.script_lines.proofs.lines.mode_of.Reads as reads
-use Rattle.script_lines.proofs.lines.mode_of.Lts as lts
 
 returns : tie.Need-returns
 returns c = rw (c .match .keys1)

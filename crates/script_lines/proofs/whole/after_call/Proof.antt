@@ -3,9 +3,6 @@ use Rattle.script_lines.proofs.WholeLaws.{call-plain}
 use borrow.Author.Needs.{needs}
 use Rattle.script_lines.proofs.whole.after_call.Statement.{statement}
 use Rattle.script_lines.proofs.whole.after_call.Tie as tie
-use Rattle.script_lines.proofs.whole.after_call.Reads as reads
-use Rattle.script_lines.proofs.whole.after_call.Lts as lts
-use Rattle.script_lines.proofs.lines.push_line.Reads as push-line-reads
 
 returns : tie.Need-returns
 unfolding afterCall

@@ -2,8 +2,6 @@ use Rattle.script_lines.proofs.WholeLaws.{no-channel}
 use borrow.Author.Needs.{needs}
 use Rattle.script_lines.proofs.whole.after_channel.Statement.{statement}
 use Rattle.script_lines.proofs.whole.after_channel.Tie as tie
-use Rattle.script_lines.proofs.whole.after_channel.Reads as reads
-use Rattle.script_lines.proofs.whole.after_channel.Lts as lts
 
 returns : tie.Need-returns
 returns c = rw (c .enum-told .given .1)

@@ -4,12 +4,6 @@ use Rattle.script_lines.proofs.WholeLaws.{line-nothing, line-unsaid, li
 use borrow.Author.Needs.{needs}
 use Rattle.script_lines.proofs.whole.after_line.Statement.{statement}
 use Rattle.script_lines.proofs.whole.after_line.Tie as tie
-use Rattle.script_lines.proofs.whole.after_line.Reads as reads
-use Rattle.script_lines.proofs.whole.after_line.Lts as lts
-use Rattle.script_lines.proofs.kinds.kind_of.Reads as kind-of-reads
-use Rattle.script_lines.proofs.whole.after_call.Reads as after-call-reads
-use Rattle.script_lines.proofs.whole.after_channel.Reads as after-channel-reads
-use Rattle.script_lines.proofs.whole.says_all.Reads as says-all-reads
 
 returns : tie.Need-returns
 returns c = line-nothing _ _ (c .before .before .kind-of .ensures) (c .enum-told .given .1)

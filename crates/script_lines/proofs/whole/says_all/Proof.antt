@@ -2,13 +2,6 @@ use Rattle.script_lines.specs.Whole.{saysAll}
 use borrow.Author.Needs.{needs}
 use Rattle.script_lines.proofs.whole.says_all.Statement.{statement}
 use Rattle.script_lines.proofs.whole.says_all.Tie as tie
-use Rattle.script_lines.proofs.whole.says_all.Reads as reads
-use Rattle.script_lines.proofs.whole.says_all.Lts as lts
-use Rattle.script_lines.proofs.channels.channel_line.Reads as channel-line-reads
-use Rattle.script_lines.proofs.lines.begin_line.Reads as begin-line-reads
-use Rattle.script_lines.proofs.lines.cue_line.Reads as cue-line-reads
-use Rattle.script_lines.proofs.lines.lent_line.Reads as lent-line-reads
-use Rattle.script_lines.proofs.lines.push_line.Reads as push-line-reads
 
 returns : tie.Need-returns
 unfolding saysAll

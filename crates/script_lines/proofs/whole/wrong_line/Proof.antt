@@ -6,11 +6,6 @@ use borrow.Author.Needs.{needs}
 use Rattle.script_lines.proofs.WholeLaws.{Walking, walk-none, walk-wrong, walk-more, walk-unbegun, walk-due, walk-all}
 use Rattle.script_lines.proofs.whole.wrong_line.Statement.{statement}
 use Rattle.script_lines.proofs.whole.wrong_line.Tie as tie
-use Rattle.script_lines.proofs.whole.wrong_line.Reads as reads
-use Rattle.script_lines.proofs.whole.wrong_line.Lts as lts
-use Rattle.script_lines.proofs.whole.after_line.Reads as after-line-reads
-use Rattle.script_words.proofs.text.line_at.Reads as line-at-reads
-use Rattle.script_words.proofs.text.next_line.Reads as next-line-reads
 
 abbrev Inv-loop : tie.InvT-loop
 Inv-loop s due₀ number₀ at₀ due number at = Walking s due number at

@@ -2,8 +2,6 @@ use Rattle.script_words.proofs.DataLaws.{digit-1, digit-2, digit-3, dig
 use borrow.Author.Needs.{needs}
 use Rattle.script_words.proofs.hex.digit.Statement.{statement}
 use Rattle.script_words.proofs.hex.digit.Tie as tie
-use Rattle.script_words.proofs.hex.digit.Reads as reads
-use Rattle.script_words.proofs.hex.digit.Lts as lts
 
 returns : tie.Need-returns
 returns c = digit-1 _ (c .if1 .taken)

@@ -3,9 +3,6 @@ use Rattle.script_words.proofs.DataLaws.{no-data, one-byte, some-bytes}
 use borrow.Author.Needs.{needs}
 use Rattle.script_words.proofs.hex.is_data.Statement.{statement}
 use Rattle.script_words.proofs.hex.is_data.Tie as tie
-use Rattle.script_words.proofs.hex.is_data.Reads as reads
-use Rattle.script_words.proofs.hex.is_data.Lts as lts
-use Rattle.script_words.proofs.hex.two_by_two.Reads as two-by-two-reads
 
 returns : tie.Need-returns
 returns c = no-data _ (search needs)

@@ -2,8 +2,6 @@ use borrow.Author.Needs.{needs}
 use Rattle.script_words.proofs.DataLaws.{is-figure, is-capital, is-small, before-figures, before-capitals, before-small, after-small}
 use Rattle.script_words.proofs.hex.is_digit.Statement.{statement}
 use Rattle.script_words.proofs.hex.is_digit.Tie as tie
-use Rattle.script_words.proofs.hex.is_digit.Reads as reads
-use Rattle.script_words.proofs.hex.is_digit.Lts as lts
 
 returns : tie.Need-returns
 returns c = is-figure _ (search needs) (search needs)

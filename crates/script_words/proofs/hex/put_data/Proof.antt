@@ -9,10 +9,6 @@ use Rattle.script_words.specs.Data.{bytesSaid}
 use Rattle.script_words.proofs.DataLaws.{data-length, data-at, count-inside, count-outside}
 use Rattle.script_words.proofs.hex.put_data.Statement.{statement}
 use Rattle.script_words.proofs.hex.put_data.Tie as tie
-use Rattle.script_words.proofs.hex.put_data.Reads as reads
-use Rattle.script_words.proofs.hex.put_data.Lts as lts
-use Rattle.layout.proofs.fields.inside.Reads as inside-reads
-use Rattle.script_words.proofs.hex.digit.Reads as digit-reads
 
 abbrev Inv-loop : tie.InvT-loop
 Inv-loop out₀ at word n j₀ out j = Putting out₀ at (bytesSaid word) n out j

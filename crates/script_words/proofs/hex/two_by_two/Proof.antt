@@ -3,9 +3,6 @@ use Prim.Native.Nat.{_-_}
 use Rattle.script_words.proofs.DataLaws.{Pairs, odd, pairs-none, first-bad, second-bad, pairs-more, pairs-all}
 use Rattle.script_words.proofs.hex.two_by_two.Statement.{statement}
 use Rattle.script_words.proofs.hex.two_by_two.Tie as tie
-use Rattle.script_words.proofs.hex.two_by_two.Reads as reads
-use Rattle.script_words.proofs.hex.two_by_two.Lts as lts
-use Rattle.script_words.proofs.hex.is_digit.Reads as is-digit-reads
 
 abbrev Inv-loop : tie.InvT-loop
 Inv-loop word n j₀ j = Pairs word n j

@@ -2,8 +2,6 @@ use Rattle.script_words.proofs.NumberLaws.{minus-none, minus-some}
 use borrow.Author.Needs.{needs}
 use Rattle.script_words.proofs.numbers.negative.Statement.{statement}
 use Rattle.script_words.proofs.numbers.negative.Tie as tie
-use Rattle.script_words.proofs.numbers.negative.Reads as reads
-use Rattle.script_words.proofs.numbers.negative.Lts as lts
 
 returns : tie.Need-returns
 returns c = minus-none _ (search needs)

@@ -3,10 +3,6 @@ use Rattle.script_words.proofs.NumberLaws.{minus-word, empty-start, pla
 use borrow.Author.Needs.{needs}
 use Rattle.script_words.proofs.numbers.signed.Statement.{statement}
 use Rattle.script_words.proofs.numbers.signed.Tie as tie
-use Rattle.script_words.proofs.numbers.signed.Reads as reads
-use Rattle.script_words.proofs.numbers.signed.Lts as lts
-use Rattle.script_words.proofs.numbers.negative.Reads as negative-reads
-use Rattle.script_words.proofs.numbers.unsigned.Reads as unsigned-reads
 
 returns : tie.Need-returns
 returns c = minus-word _ (search needs) (search needs) (c .before .unsigned .ensures .0) (c .negative .ensures)

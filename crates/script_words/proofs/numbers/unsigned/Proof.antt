@@ -5,9 +5,6 @@ use lib.ListN.{length}
 use Rattle.script_words.proofs.NumberLaws.{Reading, reading-none, no-word, low, high, over, more, all}
 use Rattle.script_words.proofs.numbers.unsigned.Statement.{statement}
 use Rattle.script_words.proofs.numbers.unsigned.Tie as tie
-use Rattle.script_words.proofs.numbers.unsigned.Reads as reads
-use Rattle.script_words.proofs.numbers.unsigned.Lts as lts
-use Rattle.script_words.proofs.numbers.bad.Reads as bad-reads
 
 abbrev Inv-loop : tie.InvT-loop
 Inv-loop word max value₀ i₀ value i = Reading max word value i

@@ -15,7 +15,7 @@ use Rattle.layout.proofs.PutLaws.{Put, put-then, putAt-in}
 use Rattle.reader.specs.declared.HpsReader.{HpsReader}
 use Rattle.reader.specs.declared.CueIterator.{CueIterator}
 use Rattle.reader.specs.CuesReadBack.{cursor, looped, firstCursor}
-use Rattle.layout_read.specs.NumberOrZero.{wordAt, longAt}
+use Rattle.layout_number_or_zero.specs.NumberOrZero.{wordAt, longAt}
 use Rattle.c_opened.specs.KeptReader.{be64, putLong}
 use Rattle.c_opened.proofs.LongLaws.{be64-length, putLong-length, long-put, word-back, long-back}
 use Rattle.c_cues.specs.KeptCues.{cursorIn, cursorBytes, CursorFits, putCursor}

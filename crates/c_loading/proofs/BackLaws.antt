@@ -29,7 +29,7 @@ use Rattle.writer.specs.declared.Looping.{Looping}
 use Rattle.writer.specs.declared.LoopAt.{LoopAt}
 use Rattle.c_record.specs.Fields.{fieldsOf, writerOf}
 use Rattle.c_record.specs.declared.Fields.{Fields}
-use Rattle.layout_read.specs.NumberOrZero.{halfAt, signedAt, wordAt, longAt}
+use Rattle.layout_number_or_zero.specs.NumberOrZero.{halfAt, signedAt, wordAt, longAt}
 use Rattle.c_opened.specs.KeptReader.{be64}
 use Rattle.c_opened.proofs.LongLaws.{be64-length, word-back, long-back}
 use Rattle.c_opened.proofs.ReadBackLaws.{Agree}

@@ -17,8 +17,8 @@ use Rattle.reader.specs.OpeningAndReading.{Readable}
 use Rattle.reader.specs.ReaderAnswers.{noReader}
 use Rattle.reader.specs.declared.HpsReader.{HpsReader}
 use Rattle.reader.specs.declared.LoopStart.{LoopStart}
-use Rattle.layout_read.specs.NumberOrZero.{wordAt}
-use Rattle.layout_read.proofs.NumberLaws.{word-in}
+use Rattle.layout_number_or_zero.specs.NumberOrZero.{wordAt}
+use Rattle.layout_number_or_zero.proofs.NumberLaws.{word-in}
 use Rattle.c_opened.specs.KeptReader.{loopNumber, loopOf, lesser, offsetsIn, partIn, openedSize, offsetsAt}
 use Rattle.layout.specs.Refusals.{blockLimit}
 use Rattle.layout.proofs.ListLaws.{zeros-at}

@@ -9,8 +9,8 @@ use Rattle.layout.specs.Records.{be32}
 use Rattle.layout.proofs.AtLaws.{At, at-left, at-right, at-move, at-inside, u32-back}
 use Rattle.layout.proofs.Lengths.{be32-length}
 use Rattle.layout.proofs.PutLaws.{Put, put-then, putAt-length}
-use Rattle.layout_read.specs.NumberOrZero.{wordAt, longAt}
-use Rattle.layout_read.proofs.NumberLaws.{word-in, long-in}
+use Rattle.layout_number_or_zero.specs.NumberOrZero.{wordAt, longAt}
+use Rattle.layout_number_or_zero.proofs.NumberLaws.{word-in, long-in}
 use Rattle.c_opened.specs.KeptReader.{be64, putLong}
 
 pub be64-length : (x : ℕ) → length (be64 x) ≡ 8

@@ -31,8 +31,8 @@ use Rattle.reader.specs.declared.HpsReader.{HpsReader}
 use Rattle.reader.specs.declared.LoopStart.{LoopStart}
 use Rattle.reader.proofs.HeaderLaws.{header-cases, header-is}
 use Rattle.reader.proofs.OpenedLaws.{Parts, opened-parts, one-or-two, not-walked, and-readable}
-use Rattle.layout_read.specs.NumberOrZero.{wordAt}
-use Rattle.layout_read.proofs.NumberLaws.{word-in}
+use Rattle.layout_number_or_zero.specs.NumberOrZero.{wordAt}
+use Rattle.layout_number_or_zero.proofs.NumberLaws.{word-in}
 use Rattle.c_opened.specs.KeptReader.{loopNumber, loopOf, fileKept, offsetsKept, openedParts, openedBytes, offsetsIn, readerIn, ReadBack, openedSize, offsetsAt}
 use Rattle.c_opened.proofs.KeptReads.{first-offset, offsets-long, second-lesser, part-made}
 use Rattle.layout.specs.Refusals.{blockLimit}

@@ -11,7 +11,7 @@ use lib.IntN.{ℤ, pos}
 use Rattle.writer.specs.Calls.{noCue}
 use Rattle.writer.specs.declared.Cue.{Cue}
 use Rattle.writer.specs.declared.CueKind.{CueKind}
-use Rattle.layout_read.specs.NumberOrZero.{signedAt}
+use Rattle.layout_number_or_zero.specs.NumberOrZero.{signedAt}
 use Rattle.c_record.specs.KeptSides.{kindOf, signedFrom, cueIn, cuesKept, tableIn}
 use Rattle.layout.specs.Refusals.{cueLimit}
 

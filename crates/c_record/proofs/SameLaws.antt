@@ -4,7 +4,7 @@ use mathlib.Core.Path.{_≡_, refl}
 use mathlib.Core.List.{List}
 use native.Mathlib.Omega.{arith}
 use lib.ListN.{length}
-use Rattle.layout_read.specs.NumberOrZero.{halfAt, signedAt, wordAt, longAt}
+use Rattle.layout_number_or_zero.specs.NumberOrZero.{halfAt, signedAt, wordAt, longAt}
 use Rattle.c_opened.proofs.ReadBackLaws.{Agree, u16-same, u32-same}
 use Rattle.c_record.specs.KeptSides.{signedFrom, sideIn, cueIn, cuesKept, tableIn, sideSize}
 

@@ -11,7 +11,7 @@ use Rattle.writer.specs.Calls.{noCue}
 use Rattle.writer.specs.declared.ChannelBlock.{ChannelBlock}
 use Rattle.writer.specs.declared.Cue.{Cue}
 use Rattle.writer.specs.declared.CueKind.{CueKind}
-use Rattle.layout_read.specs.NumberOrZero.{halfAt, signedAt, wordAt, longAt}
+use Rattle.layout_number_or_zero.specs.NumberOrZero.{halfAt, signedAt, wordAt, longAt}
 
 -- ---- Places in the writer's record
 

@@ -16,7 +16,7 @@ use Rattle.writer.specs.Push.{countTaken, cuesTaken}
 use Rattle.writer_assign_cues.specs.declared.Taken.{Taken}
 use Rattle.c_record.specs.Fields.{fieldsOf, writerOf}
 use Rattle.c_record.specs.declared.Fields.{Fields}
-use Rattle.layout_read.specs.NumberOrZero.{wordAt, longAt}
+use Rattle.layout_number_or_zero.specs.NumberOrZero.{wordAt, longAt}
 use Rattle.c_record.specs.KeptSides.{sideIn, tableIn, loaderSize, cuesAt, leftAt, rightAt}
 
 -- 0 Disabled, 1 Enabled, any other number Auto.

@@ -8,7 +8,7 @@ use lib.Seq.{length-take-le, getD-take, getD-drop, getD-append-add}
 use Rattle.layout.specs.Lists.{put}
 use Rattle.layout.specs.Puts.{putAt}
 use Rattle.layout.proofs.PutLaws.{putAt-in, putAt-length}
-use Rattle.layout_read.specs.NumberOrZero.{wordAt, longAt}
+use Rattle.layout_number_or_zero.specs.NumberOrZero.{wordAt, longAt}
 use Rattle.c_record.specs.KeptSides.{sideIn}
 use Rattle.c_record.proofs.SameLaws as sides
 

@@ -17,7 +17,7 @@ use Rattle.writer.specs.Loading.{rank, rangeLength}
 use Rattle.writer.specs.Calls.{noCue}
 use Rattle.writer.specs.declared.Cue.{Cue}
 use Rattle.writer.specs.declared.CueKind.{CueKind}
-use Rattle.layout_read.specs.NumberOrZero.{wordAt, longAt}
+use Rattle.layout_number_or_zero.specs.NumberOrZero.{wordAt, longAt}
 use Rattle.c_opened.specs.KeptReader.{be64, putLong}
 use Rattle.c_opened.proofs.LongLaws.{be64-length, long-put, word-back, long-back}
 use Rattle.c_record.specs.KeptSides.{kindOf, cueIn, cuesKept, tableIn, cuesAt, loaderSize}

@@ -1,4 +1,3 @@
 pub mod ReadLaws
 pub mod ChannelLaws
 pub mod MagicLaws
-pub mod NumberLaws

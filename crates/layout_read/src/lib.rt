@@ -4,4 +4,3 @@ pub mod block; // block.rt: a block's header and cue points
 pub mod channels; // channels.rt: a channel and its format
 mod context; // context.rt: a context
 pub mod file; // file.rt: the magic
-pub mod number_or_zero; // number_or_zero.rt: numbers that read as 0 where they are not wholly there

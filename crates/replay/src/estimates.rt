@@ -1,6 +1,6 @@
 // The estimate, held to recorded answers.
-use layout_read::number_or_zero::long;
-use layout_read::number_or_zero::word;
+use layout_number_or_zero::long;
+use layout_number_or_zero::word;
 use replay_input::size;
 use writer_estimate::EstimateReply;
 use writer_estimate::estimate;

@@ -7,7 +7,7 @@ use crate::slot::slot_case;
 use io::print_decimal;
 use io::read_full;
 use io::write_all;
-use layout_read::number_or_zero::word;
+use layout_number_or_zero::word;
 use libc::STDIN_FILENO;
 use libc::STDOUT_FILENO;
 use replay_input::input_room;

@@ -1,13 +1,13 @@
 // Parts and lengths of the recorded input. A part that is not wholly there is empty, a length 0.
 use layout::fields::inside;
-use layout_read::number_or_zero::word;
+use layout_number_or_zero::word;
 
 pub mod report; // report.rt: what is printed of a case
 
 ghost use Prim.Native.Nat.{_<_};
 ghost use mathlib.Core.Path.{_≡_};
 ghost use lib.ListN.{replicate};
-ghost use Rattle.layout_read.specs.NumberOrZero.{wordAt};
+ghost use Rattle.layout_number_or_zero.specs.NumberOrZero.{wordAt};
 ghost use Rattle.replay_input.specs.Parts.{partAt};
 
 // More than the recorded cases have.

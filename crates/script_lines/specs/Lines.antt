@@ -6,7 +6,7 @@ use lib.ListN.{length}
 use lib.Dec.{eqb}
 use lib.IntN.{ℤ}
 use Rattle.layout.specs.Choice.{pick, _and_}
-use Rattle.layout_read.specs.NumberOrZero.{wordAt}
+use Rattle.layout_number_or_zero.specs.NumberOrZero.{wordAt}
 use Rattle.script_words.specs.Texts.{wordFrom, wordCount}
 use Rattle.script_words.specs.Numbers.{decimalOf, smallOf}
 use Rattle.script_words.specs.Data.{isData, bytesSaid}

@@ -1,5 +1,4 @@
 // What kind a line is.
-use layout_read::number_or_zero;
 use script_words::text::word;
 use script_words::text::word_count;
 ghost use mathlib.Core.Path.{_≡_};
@@ -71,5 +70,5 @@ pub fn kind_of(line: &[u8]) -> Kind
     if name.len() != 4 {
         return Kind::Unknown;
     }
-    named(number_or_zero::word(name, 0), count)
+    named(layout_number_or_zero::word(name, 0), count)
 }

@@ -1,9 +1,9 @@
 use borrow.Author.Needs.{needs}
 use Rattle.layout.proofs.FieldLaws.{u32, got, short}
-use Rattle.layout_read.specs.NumberOrZero.{wordAt}
-use Rattle.layout_read.proofs.NumberLaws.{number-got, number-missed}
-use Rattle.layout_read.proofs.number_or_zero.word.Statement.{statement}
-use Rattle.layout_read.proofs.number_or_zero.word.Tie as tie
+use Rattle.layout_number_or_zero.specs.NumberOrZero.{wordAt}
+use Rattle.layout_number_or_zero.proofs.NumberLaws.{number-got, number-missed}
+use Rattle.layout_number_or_zero.proofs.word.Statement.{statement}
+use Rattle.layout_number_or_zero.proofs.word.Tie as tie
 
 returns : tie.Need-returns
 unfolding wordAt

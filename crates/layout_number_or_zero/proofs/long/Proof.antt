@@ -5,9 +5,9 @@ use lib.ListN.{length}
 use denote.Ref.{now}
 use borrow.Author.Needs.{needs}
 use Rattle.layout.proofs.FieldLaws.{passed, failed}
-use Rattle.layout_read.proofs.NumberLaws.{long-in, long-out}
-use Rattle.layout_read.proofs.number_or_zero.long.Statement.{statement}
-use Rattle.layout_read.proofs.number_or_zero.long.Tie as tie
+use Rattle.layout_number_or_zero.proofs.NumberLaws.{long-in, long-out}
+use Rattle.layout_number_or_zero.proofs.long.Statement.{statement}
+use Rattle.layout_number_or_zero.proofs.long.Tie as tie
 
 room : (c : tie.Then1) → c .before .before .before .args .at + 8 ≤ length (now (c .before .before .before .args .s))
 room c = passed (c .before .inside .ensures) (c .if1 .taken)

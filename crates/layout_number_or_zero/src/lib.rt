@@ -7,7 +7,7 @@ use layout::fields::read_i16;
 use layout::fields::read_u16;
 use layout::fields::read_u32;
 ghost use mathlib.Core.Path.{_≡_};
-ghost use Rattle.layout_read.specs.NumberOrZero.{halfAt, signedAt, wordAt, longAt};
+ghost use Rattle.layout_number_or_zero.specs.NumberOrZero.{halfAt, signedAt, wordAt, longAt};
 
 // A u16.
 pub fn half(s: &[u8], at: usize) -> u16

@@ -9,7 +9,7 @@ use borrow.Author.Tests.{le-leb, lt-leb}
 use Rattle.layout.specs.Choice.{pick}
 use Rattle.layout.specs.Records.{u32At}
 use Rattle.layout.proofs.FieldLaws.{Got, Missed}
-use Rattle.layout_read.specs.NumberOrZero.{wordAt, longAt}
+use Rattle.layout_number_or_zero.specs.NumberOrZero.{wordAt, longAt}
 
 module _ {A : Type 0} (s : List ℕ) (past : ℕ) (a zero : A) where
   pub number-in : past ≤ length s → pick (leb past (length s)) a zero ≡ a

@@ -1,9 +1,9 @@
 use borrow.Author.Needs.{needs}
 use Rattle.layout.proofs.FieldLaws.{u16, got, short}
-use Rattle.layout_read.specs.NumberOrZero.{halfAt}
-use Rattle.layout_read.proofs.NumberLaws.{number-got, number-missed}
-use Rattle.layout_read.proofs.number_or_zero.half.Statement.{statement}
-use Rattle.layout_read.proofs.number_or_zero.half.Tie as tie
+use Rattle.layout_number_or_zero.specs.NumberOrZero.{halfAt}
+use Rattle.layout_number_or_zero.proofs.NumberLaws.{number-got, number-missed}
+use Rattle.layout_number_or_zero.proofs.half.Statement.{statement}
+use Rattle.layout_number_or_zero.proofs.half.Tie as tie
 
 returns : tie.Need-returns
 unfolding halfAt

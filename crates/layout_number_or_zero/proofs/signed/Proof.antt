@@ -5,10 +5,10 @@ use mir.Val.{SFits}
 use mir.Facts.{toZ-ofZ}
 use borrow.Author.Needs.{needs}
 use Rattle.layout.proofs.FieldLaws.{i16, got, short}
-use Rattle.layout_read.specs.NumberOrZero.{signedAt}
-use Rattle.layout_read.proofs.NumberLaws.{number-got, number-missed}
-use Rattle.layout_read.proofs.number_or_zero.signed.Statement.{statement}
-use Rattle.layout_read.proofs.number_or_zero.signed.Tie as tie
+use Rattle.layout_number_or_zero.specs.NumberOrZero.{signedAt}
+use Rattle.layout_number_or_zero.proofs.NumberLaws.{number-got, number-missed}
+use Rattle.layout_number_or_zero.proofs.signed.Statement.{statement}
+use Rattle.layout_number_or_zero.proofs.signed.Tie as tie
 
 returns : tie.Need-returns
 unfolding signedAt

@@ -20,7 +20,7 @@ use Rattle.layout.proofs.Lengths.{be16-length, be32-length, beZ16-length, coeff
 use Rattle.layout.proofs.AtLaws.{At, at-left, at-right, at-move, at-same, at-inside, joined, Pieces, pieces, u16-back, i16-back}
 use Rattle.layout.proofs.PutLaws.{putAt-length}
 use Rattle.writer.specs.Typed.{TypedBlock}
-use Rattle.writer.specs.Loading.{noBlock, beginRefusal, finishRefusal}
+use Rattle.writer.specs.Loading.{noBlock, beginRefusal, finishRefusal, modeOf}
 use Rattle.writer.specs.Calls.{emptyOf, beginOf, afterFinish, finishOf, Good}
 use Rattle.writer.proofs.GoodLaws.{empty-good, finish-good}
 use Rattle.writer.specs.declared.ChannelBlock.{ChannelBlock}
@@ -37,7 +37,7 @@ use Rattle.c_record.specs.KeptSides.{signedFrom, sideIn, cuesKept, tableIn, cue
 use Rattle.c_record.proofs.SameLaws.{word-same, long-same, side-same, table-same}
 use Rattle.c_record_put.specs.KeptNumbers.{modeNumber, loopOffsetNumber, flagNumber, placesBytes, sumsBytes, marksBytes, numberBytes}
 use Rattle.c_record_put.proofs.NumberLaws.{places-length, sums-length, numbers-length}
-use Rattle.c_record.specs.KeptWriter.{modeOf, loopOffset, fieldsIn, sensible, streamIn, writerIn}
+use Rattle.c_record.specs.KeptWriter.{loopOffset, fieldsIn, sensible, streamIn, writerIn}
 use Rattle.c_record.proofs.KeptLaws.{holds-record, kept-good}
 use Rattle.c_record_put.proofs.SameLaws.{same-before, same-after}
 use Rattle.c_record_put.proofs.ThereLaws.{put-there}
@@ -102,7 +102,6 @@ marks-parts off l m id last finished a =
 -- ---- What is no number
 
 mode-back : (m : Looping) → (modeNumber m < 4294967296) × (modeOf (modeNumber m) ≡ m)
-unfolding modeOf
 mode-back Looping.Disabled = (omega arith, refl)
 mode-back Looping.Enabled = (omega arith, refl)
 mode-back Looping.Auto = (omega arith, refl)

@@ -16,8 +16,9 @@ use writer::begin;
 use writer_cue::cue;
 use writer_finish::finish;
 ghost use mathlib.Core.Path.{_≡_};
+ghost use Rattle.writer.specs.Loading.{modeOf};
 ghost use Rattle.writer.specs.Calls.{beginOf, cueOf, finishOf};
-ghost use Rattle.c_record.specs.KeptWriter.{modeOf, writerIn};
+ghost use Rattle.c_record.specs.KeptWriter.{writerIn};
 ghost use Rattle.c_loading.specs.KeptLoading.{noCall, callIn, callOf, whereRoom, onKept, givenAfter, bytesBegun, bytesCued, bytesFinished};
 
 // The number of a call, 0 where it is accepted; the place of the write that it hands out, or what else it gives.

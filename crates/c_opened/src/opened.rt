@@ -2,16 +2,15 @@
 use layout::answers::ReadAnswer;
 use layout::limits::BLOCK_LIMIT;
 use layout::limits::FILE_HEADER_SIZE;
-use layout::no_channel;
 use layout_number_or_zero::word;
 use layout_read::channels::read_channel;
 use reader::HpsReader;
 use reader::LoopStart;
+use reader::no_reader;
 ghost use mathlib.Core.Path.{_≡_};
 ghost use Prim.Native.Nat.{_≤_};
 ghost use lib.ListN.{length};
 ghost use Rattle.reader.specs.OpeningAndReading.{Readable};
-ghost use Rattle.reader.specs.ReaderAnswers.{noReader};
 ghost use Rattle.c_opened.specs.KeptReader.{loopOf, offsetsIn, lesser, partIn, ReadBack};
 ghost use Rattle.layout.specs.Refusals.{blockLimit};
 
@@ -56,24 +55,6 @@ fn least(a: usize, b: usize) -> usize
     ensures { λ r. ⌜ r ≤ b ⌝ }
 {
     if a < b { a } else { b }
-}
-
-// A record of no channel: it stands for bytes that hold no record.
-fn no_reader() -> HpsReader
-    ensures { λ r. ⌜ r ≡ noReader ⌝ }
-{
-    let none = no_channel();
-    let channels = [none; 2];
-    let offsets = [0u32; BLOCK_LIMIT];
-    let loop_start = LoopStart::None;
-    HpsReader {
-        rate: 0,
-        count: 0,
-        channels,
-        blocks: 0,
-        offsets,
-        loop_start,
-    }
 }
 
 // The record that lent bytes hold, one of no channel where they hold none. Whatever they are, it meets the premise of the reading calls.

@@ -9,6 +9,7 @@ use lib.ListN.{length}
 use lib.Dec.{ltb, leb}
 use Rattle.layout.specs.Choice.{_and_}
 use Rattle.layout.proofs.Cases.{by-cases, apart, and-true}
+use Rattle.writer.specs.Loading.{modeOf}
 use Rattle.writer.specs.Calls.{blank, Good}
 use Rattle.writer.specs.Push.{loopFrom, loopsHere}
 use Rattle.writer.proofs.GoodLaws.{blank-good}
@@ -18,22 +19,19 @@ use Rattle.c_record.specs.Fields.{fieldsOf, writerOf}
 use Rattle.c_record.specs.declared.Fields.{Fields}
 use Rattle.c_record.specs.KeptSides.{tableIn, cuesKept, cuesAt, loaderSize}
 use Rattle.c_record.proofs.ReadingLaws.{table-length}
-use Rattle.c_record.specs.KeptWriter.{modeOf, loopOffset, fieldsIn, placesGood, sumsGood, marksGood, loopsWithin, sensible, streamIn, writerIn, heldIn}
+use Rattle.c_record.specs.KeptWriter.{loopOffset, fieldsIn, placesGood, sumsGood, marksGood, loopsWithin, sensible, streamIn, writerIn, heldIn}
 use Rattle.layout.specs.Refusals.{cueLimit, blockLimit, slotLimit, lengthLimit}
 
 -- ---- Mode and loop block
 
 module _ (n : ℕ) where
   pub mode-off : n ≡ 0 → Looping.Disabled ≡ modeOf n
-  unfolding modeOf
   mode-off e = rw (eq-eqb n 0 e)
 
   pub mode-on : n ≡ 1 → Looping.Enabled ≡ modeOf n
-  unfolding modeOf
   mode-on e = rw (ne-eqb n 0 (λ z. (let q : _≡_ {A = ℕ} 0 1 = sym z ∙ e in omega arith)), eq-eqb n 1 e)
 
   pub mode-auto : (n ≡ 0 → ⊥) → (n ≡ 1 → ⊥) → Looping.Auto ≡ modeOf n
-  unfolding modeOf
   mode-auto h g = rw (ne-eqb n 0 h, ne-eqb n 1 g)
 
   pub loop-nowhere : n ≡ 18446744073709551615 → LoopAt.Nowhere ≡ loopOffset n

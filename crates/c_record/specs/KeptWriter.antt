@@ -6,7 +6,7 @@ use lib.ListN.{length}
 use lib.Dec.{ltb, leb, eqb}
 use Rattle.layout.specs.Choice.{pick, _and_}
 use Rattle.layout.specs.Refusals.{blockLimit, slotLimit, cueLimit, lengthLimit}
-use Rattle.writer.specs.Loading.{byMode}
+use Rattle.writer.specs.Loading.{byMode, modeOf}
 use Rattle.writer.specs.Calls.{blank}
 use Rattle.writer.specs.declared.Looping.{Looping}
 use Rattle.writer.specs.declared.LoopAt.{LoopAt}
@@ -18,10 +18,6 @@ use Rattle.c_record.specs.Fields.{fieldsOf, writerOf}
 use Rattle.c_record.specs.declared.Fields.{Fields}
 use Rattle.layout_number_or_zero.specs.NumberOrZero.{wordAt, longAt}
 use Rattle.c_record.specs.KeptSides.{sideIn, tableIn, loaderSize, cuesAt, leftAt, rightAt}
-
--- 0 Disabled, 1 Enabled, any other number Auto.
-unfoldable pub modeOf : ℕ → Looping
-modeOf n = pick (eqb n 0) Looping.Disabled (pick (eqb n 1) Looping.Enabled Looping.Auto)
 
 -- The number for no loop block.
 abbrev pub nowhere : ℕ

@@ -13,10 +13,11 @@ use writer::Cue;
 use writer_estimate::EstimateReply;
 use writer_estimate::estimate;
 ghost use mathlib.Core.Path.{_≡_};
+ghost use Rattle.writer.specs.Loading.{modeOf};
 ghost use Rattle.writer.specs.Estimate.{estimateOf};
 ghost use Rattle.writer.specs.Calls.{beginOf, finishOf};
 ghost use Rattle.c_record.specs.KeptSides.{sidesShort};
-ghost use Rattle.c_record.specs.KeptWriter.{modeOf, writerIn};
+ghost use Rattle.c_record.specs.KeptWriter.{writerIn};
 ghost use Rattle.c_loading.specs.KeptLoading.{callOf, whereRoom, onKept, givenAfter, bytesBegun, bytesCued, bytesPushed, bytesFinished};
 ghost use Rattle.hps.specs.Exported.{numberOf, cueOn, cueNumber, pushOn, pushNumber, lengthAfter};
 

@@ -12,9 +12,7 @@ use Rattle.script_words.specs.Numbers.{decimalOf, smallOf}
 use Rattle.script_words.specs.Data.{isData, bytesSaid}
 use Rattle.script_words.specs.declared.numbers.Number.{Number}
 use Rattle.script_words.specs.declared.numbers.Small.{Small}
-use Rattle.writer.specs.Loading.{Side}
-use Rattle.writer.specs.declared.Looping.{Looping}
-use Rattle.writer.specs.declared.Looping.the-variants.{Disabled, Enabled, Auto}
+use Rattle.writer.specs.Loading.{Side, modeOf}
 use Rattle.writer.specs.declared.CueKind.{CueKind}
 use Rattle.writer.specs.declared.ChannelBlock.{ChannelBlock}
 use Rattle.script_lines.specs.declared.kinds.Kind.{Kind}
@@ -94,14 +92,10 @@ smallAt l i = smallOf (wordFrom l i)
 
 -- ---- Lines
 
--- "0 Disabled, 1 Enabled, 2 Auto"
-abbrev pub modeSaid : ℕ → Looping
-modeSaid n = pick (eqb n 0) Disabled (pick (eqb n 1) Enabled Auto)
-
--- "`BEGN channels mode`"
+-- "`BEGN channels mode`", "0 Disabled, 1 Enabled, 2 Auto"
 unfoldable pub beginLine : List ℕ → BeginLine
 beginLine l =
-    record { good = decimalAt l 1 most64 .good and decimalAt l 2 2 .good; channels = decimalAt l 1 most64 .value; mode = modeSaid (decimalAt l 2 2 .value) }
+    record { good = decimalAt l 1 most64 .good and decimalAt l 2 2 .good; channels = decimalAt l 1 most64 .value; mode = modeOf (decimalAt l 2 2 .value) }
 
 -- A cue of this kind, whose name is this word.
 unfoldable pub cueNamed : List ℕ → CueKind → (name : ℕ) → CueLine

@@ -10,7 +10,8 @@ use writer::CueKind;
 use writer::Looping;
 ghost use mathlib.Core.Path.{_≡_};
 ghost use Prim.Native.Nat.{_≤_};
-ghost use Rattle.script_lines.specs.Lines.{decimalAt, smallAt, modeSaid, beginLine, cueNamed, rangeLine, cueSaid, pushLine, lentLine};
+ghost use Rattle.writer.specs.Loading.{modeOf};
+ghost use Rattle.script_lines.specs.Lines.{decimalAt, smallAt, beginLine, cueNamed, rangeLine, cueSaid, pushLine, lentLine};
 
 pub const U64: u64 = 18446744073709551615;
 
@@ -53,7 +54,7 @@ pub fn small_at(line: &[u8], i: usize) -> Small
 }
 
 fn mode_of(n: u64) -> Looping
-    ensures { λ r. ⌜ r ≡ modeSaid n ⌝ }
+    ensures { λ r. ⌜ r ≡ modeOf n ⌝ }
 {
     match n {
         0 => Looping::Disabled,

@@ -4,6 +4,7 @@ use lib.ListN.{length}
 use borrow.Author.Tests.{lt-ltb, le-ltb}
 use Rattle.layout.specs.Puts.{putAt}
 use Rattle.layout.proofs.PutLaws.{putAt-length}
+use Rattle.writer.specs.Loading.{modeOf}
 use Rattle.writer.specs.Calls.{called, beginOf}
 use Rattle.writer.specs.declared.Called.{Called}
 use Rattle.c_loading.specs.KeptLoading.{callIn, callOf}
@@ -11,7 +12,7 @@ use Rattle.c_loading.specs.declared.KeptCall.{KeptCall}
 use Rattle.writer.specs.declared.Looping.{Looping}
 use Rattle.c_record.specs.Fields.{fieldsOf}
 use Rattle.c_record.specs.declared.Fields.{Fields}
-use Rattle.c_record.specs.KeptWriter.{modeOf, writerIn}
+use Rattle.c_record.specs.KeptWriter.{writerIn}
 use Rattle.c_record_put.specs.KeptRecord.{recordBytes}
 use Rattle.c_record_put.proofs.RecordLaws.{record-put}
 use Rattle.c_loading.proofs.BackLaws.{begin-after, begin-sixteen}

@@ -1,27 +1,15 @@
 // A stream loaded through begin, cue, push and finish, with calls among them that are refused, held to recorded answers and bytes.
-use crate::server::is_applied;
 use check::same;
-use layout::FrameContext;
 use layout::least;
-use layout_number_or_zero::half;
-use layout_number_or_zero::long;
-use layout_number_or_zero::signed;
 use layout_number_or_zero::word;
 use layout_put::put_bytes;
-use layout_read::channels::read_coefficients;
+use replay_calls::make;
 use replay_input::part;
 use replay_input::size;
-use writer::Called;
-use writer::ChannelBlock;
-use writer::Cue;
-use writer::CueKind;
+use replay_server::is_applied;
 use writer::HpsWriter;
 use writer::Looping;
 use writer::begin;
-use writer_cue::cue;
-use writer_finish::finish;
-use writer_push::push;
-ghost use Prim.Native.Nat.{_<_};
 ghost use mathlib.Core.Path.{_≡_};
 ghost use lib.ListN.{length};
 ghost use Rattle.writer.specs.Calls.{Good};
@@ -37,93 +25,6 @@ const LENT: usize = 66592;
 pub struct Left {
     pub writer: HpsWriter,
     pub good: bool,
-}
-
-fn mode(n: u32) -> Looping {
-    match n {
-        0 => Looping::Disabled,
-        1 => Looping::Enabled,
-        _ => Looping::Auto,
-    }
-}
-
-fn kind(n: u32, length: u64) -> CueKind {
-    match n {
-        0 => CueKind::Point,
-        1 => CueKind::Loop,
-        _ => CueKind::Range(length),
-    }
-}
-
-// What a push says of a channel.
-fn side(s: &[u8], at: usize) -> ChannelBlock
-    requires { ⌜ at < 8589934592 ⌝ }
-{
-    let read = read_coefficients(s, at + 12);
-    let coefficients = read.coefficients;
-    let context = FrameContext {
-        predictor_and_scale: half(s, at + 46),
-        last: signed(s, at + 48),
-        oldest: signed(s, at + 50),
-    };
-    ChannelBlock {
-        rate: word(s, at),
-        length: long(s, at + 4) as usize,
-        coefficients,
-        gain: half(s, at + 44),
-        context,
-    }
-}
-
-// Begin on the slot as it stands.
-fn make_begin(step: &[u8], lent: &mut [u8]) -> Called
-    ensures { λ q. ⌜ Good (q .writer) ⌝ }
-{
-    begin(size(step, 8), size(step, 12), mode(word(step, 16)), lent)
-}
-
-fn make_cue(step: &[u8], w: HpsWriter) -> Called
-    requires { ⌜ Good w ⌝ }
-    ensures { λ q. ⌜ Good (q .writer) ⌝ }
-{
-    let kind = kind(word(step, 12), long(step, 36));
-    cue(
-        w,
-        Cue {
-            start: long(step, 16),
-            kind,
-            name: word(step, 32),
-        },
-    )
-}
-
-fn make_push(step: &[u8], w: HpsWriter, lent: &mut [u8]) -> Called
-    requires { ⌜ Good w ⌝ }
-    ensures { λ q. ⌜ Good (q .writer) ⌝ }
-{
-    let many = size(step, 20);
-    push(
-        w,
-        size(step, 12),
-        side(step, 32),
-        side(step, 84 + many),
-        part(step, 84, many),
-        part(step, 136 + many, size(step, 24)),
-        word(step, 16) == 1,
-        lent,
-    )
-}
-
-fn make(step: &[u8], w: HpsWriter, lent: &mut [u8]) -> Called
-    requires { ⌜ Good w ⌝ }
-    ensures { λ q. ⌜ Good (q .writer) ⌝ }
-{
-    match word(step, 0) {
-        2 => make_begin(step, lent),
-        3 => make_cue(step, w),
-        4 => make_push(step, w, lent),
-        _ => finish(w, lent),
-    }
 }
 
 fn run_call(step: &[u8], w: HpsWriter, slot: &mut [u8], lent: &mut [u8]) -> Left

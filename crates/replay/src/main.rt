@@ -17,7 +17,6 @@ use replay_input::size;
 
 mod estimates; // estimates.rt: the estimate
 mod loading; // loading.rt: begin, cues, pushes and finish over a slot's earlier content
-mod server; // server.rt: the writes that a loading hands out, carried out
 mod slot; // slot.rt: the listing of a slot and every block read
 
 const CASES: usize = 100000;

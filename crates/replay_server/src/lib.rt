@@ -7,9 +7,14 @@ use reader_open::open;
 use replay_input::part;
 use writer::Place;
 use writer::Reply;
+ghost use mathlib.Core.Path.{_≡_};
+ghost use Rattle.reader.specs.OpeningAndReading.{opening};
+ghost use Rattle.replay_server.specs.ServersPart.{isDue, applied, writeApplied, headerApplied, replyApplied};
 
 // Whether the slot opens; with 2 or 3 where it must not.
-fn opens_as(s: &[u8], opens: bool) -> bool {
+fn opens_as(s: &[u8], opens: bool) -> bool
+    ensures { λ r. ⌜ r ≡ isDue (opening (now (s .entry))) opens ⌝ }
+{
     let opened = open(s);
     let reply = opened.reply;
     match reply {
@@ -35,7 +40,9 @@ fn apply_write(
     from: usize,
     length: usize,
     opens: bool,
-) -> bool {
+) -> bool
+    ensures { λ r. ⌜ applied r (now (slot .exit)) ≡ writeApplied (now (slot .entry)) n place (now (lent .entry)) from length opens ⌝ }
+{
     if !inside(n, place.offset, place.length) {
         return false;
     }
@@ -51,7 +58,9 @@ fn apply_header(
     rest: Place,
     mark: Place,
     lent: &[u8],
-) -> bool {
+) -> bool
+    ensures { λ r. ⌜ applied r (now (slot .exit)) ≡ headerApplied (now (slot .entry)) n start rest mark (now (lent .entry)) ⌝ }
+{
     if !apply_write(slot, n, start, lent, 0, 15, false) {
         return false;
     }
@@ -62,14 +71,17 @@ fn apply_header(
 }
 
 // Whether a call answered with this number, or with 0 if it was accepted, finish with this length too; the writes of an accepted call are carried out.
-pub(crate) fn is_applied(
+pub fn is_applied(
     slot: &mut [u8],
     n: usize,
     reply: Reply,
     due: u32,
     length: usize,
     lent: &[u8],
-) -> bool {
+) -> bool
+    ensures { λ r. ⌜ r ≡ replyApplied (now (slot .entry)) n reply due length (now (lent .entry)) .good ⌝ }
+    ensures { λ r. ⌜ now (slot .exit) ≡ replyApplied (now (slot .entry)) n reply due length (now (lent .entry)) .slot ⌝ }
+{
     match reply {
         Reply::Refused(number) => number == due,
         Reply::NoWrite => due == 0,

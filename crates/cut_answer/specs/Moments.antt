@@ -14,7 +14,7 @@ use Rattle.script_run.specs.Script.{scriptWrites}
 abbrev pub slotOf : (earlier script : List ℕ) → (moment : ℕ) → List ℕ
 slotOf e s m = slotAt e (scriptWrites (length e) s) m
 
--- "at the last moment all have": the number of bytes of all writes
+-- The last moment: the number of bytes of all writes.
 unfoldable pub lastMoment : (slot : ℕ) → (script : List ℕ) → ℕ
 lastMoment n s = sum (λ w. length (w .bytes)) (scriptWrites n s)
 

@@ -1,4 +1,4 @@
--- The lines that `cut` prints beside listings (docs/CUT.md, "What it prints"); a line's form is the listing's.
+-- The lines that `cut` prints beside listings (docs/CUT.md, "The answer"); a line's form is the listing's.
 use Prim.Native.Nat.{ℕ, _+_, _*_}
 use mathlib.Core.List.{List, [], _∷_}
 use lib.ListN.{take}

@@ -1,6 +1,10 @@
 // A stream loaded through begin, cue, push and finish, with calls among them that are refused, held to recorded answers and bytes.
 use check::same;
 use layout::least;
+use layout::limits::BLOCK_HEADER_SIZE;
+use layout::limits::CUE_LIMIT;
+use layout::limits::CUE_POINT_SIZE;
+use layout::limits::MONO_LIMIT;
 use layout_number_or_zero::word;
 use layout_put::put_bytes;
 use replay_calls::make;
@@ -18,8 +22,8 @@ const STEPS: usize = 3000;
 
 const SLOT: usize = 262144;
 
-// The longest block: header, 128 cues, data.
-const LENT: usize = 66592;
+// The longest block: header, cues, data.
+const LENT: usize = BLOCK_HEADER_SIZE + CUE_POINT_SIZE * CUE_LIMIT + MONO_LIMIT;
 
 // What a step leaves: the record, and whether all went as the step says.
 pub struct Left {

@@ -14,7 +14,8 @@ returns-3 : tie.Need-returns-3
 returns-3 c = rw (made-push _ _ _ (c .before .before .before .before .before .word .ensures) (c .before .before .before .before .match .keys3)) (c .before .before .make-push .ensures)
 
 returns-4 : tie.Need-returns-4
-returns-4 c = rw (made-finish _ _ _ (c .before .before .before .before .before .word .ensures) (c .before .before .before .before .match .rest .0 .0 .1) (c .before .before .before .before .match .rest .0 .1) (c .before .before .before .before .match .rest .1))
+returns-4 c = rw (made-finish _ _ _ (c .before .before .before .before .before .word .ensures) (c .before .before .before .before .match .rest .0 .0 .1)
+    (c .before .before .before .before .match .rest .0 .1) (c .before .before .before .before .match .rest .1))
     (c .before .before .finish .ensures)
 
 pub make-spec : {M : Type 1} → statement M

@@ -10,7 +10,8 @@ returns : tie.Need-returns
 returns c = let f : SFits w16 (c .before .before .before .before .signed .result) = search needs in
     let g : SFits w16 (c .before .before .before .signed2 .result) = search needs in
     rw (toZ-ofZ f, toZ-ofZ g)
-    (side-read _ _ (c .before .before .before .before .before .before .before .read-coefficients .ensures .1) (c .before .before .before .before .before .half .ensures) (c .before .before .before .before .signed .ensures) (c .before .before .before .signed2 .ensures)
+    (side-read _ _ (c .before .before .before .before .before .before .before .read-coefficients .ensures .1) (c .before .before .before .before .before .half .ensures)
+    (c .before .before .before .before .signed .ensures) (c .before .before .before .signed2 .ensures)
     (c .before .before .word .ensures) (c .before .long .ensures) (c .half2 .ensures))
 
 pub side-spec : {M : Type 1} → statement M

@@ -22,7 +22,8 @@ returns-6 : tie.Need-returns-6
 returns-6 c = one-applied _ _ _ _ _ _ (c .before .before .before .before .before .before .reply2 .given .1) (c .before .before .before .before .if1 .left) (c .before .before .apply-write .ensures)
 
 returns-7 : tie.Need-returns-7
-returns-7 c = three-applied _ _ _ _ _ _ (c .before .before .before .before .before .before .before .reply3 .given .1) (c .before .before .before .before .before .if2 .left) (c .before .before .before .before .if3 .left)
+returns-7 c = three-applied _ _ _ _ _ _ (c .before .before .before .before .before .before .before .reply3 .given .1) (c .before .before .before .before .before .if2 .left)
+    (c .before .before .before .before .if3 .left)
     (c .before .before .apply-header .ensures)
 
 pub is-applied-spec : {M : Type 1} → statement M

@@ -1,5 +1,6 @@
 // The call that a recorded step says, and the estimate that a recorded case asks for: numbers that are not there read as 0, so that any bytes say one.
 use layout::FrameContext;
+use layout::limits::BLOCK_LIMIT;
 use layout_number_or_zero::half;
 use layout_number_or_zero::long;
 use layout_number_or_zero::signed;
@@ -127,6 +128,9 @@ pub fn make(step: &[u8], w: HpsWriter, lent: &mut [u8]) -> Called
     }
 }
 
+// A block more than an estimate takes.
+const TOO_MANY: usize = BLOCK_LIMIT + 1;
+
 fn estimate_of(blocks: u32, length: usize, other: usize, channels: usize, p: u32) -> EstimateReply
     ensures { λ r. ⌜ r ≡ estimateReply (estimateOf channels (lengthsOf blocks length other) p) ⌝ }
 {
@@ -140,11 +144,11 @@ fn estimate_of(blocks: u32, length: usize, other: usize, channels: usize, p: u32
             estimate(&lengths, channels, p)
         }
         512 => {
-            let lengths = [length; 512];
+            let lengths = [length; BLOCK_LIMIT];
             estimate(&lengths, channels, p)
         }
         _ => {
-            let lengths = [length; 513];
+            let lengths = [length; TOO_MANY];
             estimate(&lengths, channels, p)
         }
     }

@@ -2,7 +2,7 @@
 import itertools
 from dataclasses import replace
 
-from loadings import NUMBERS, WAYS, resized
+from pushes import NUMBERS, WAYS, resized
 
 TRIES = 3000
 

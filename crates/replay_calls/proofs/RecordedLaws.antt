@@ -31,13 +31,13 @@ pub cue-read : (s : List ℕ) {k l start name : ℕ} {kind : CueKind}
 unfolding cueIn
 cue-read s e f g h i = rw (g, e, f, h, i)
 
-pub side-read : (s : List ℕ) (at : ℕ) {rate length gain scale : ℕ} {last oldest : ℤ} {cs : List ℤ}
+pub side-read : (s : List ℕ) (at : ℕ) {rate addresses gain scale : ℕ} {last oldest : ℤ} {cs : List ℤ}
     → cs ≡ valueOr (replicate 16 (pos 0)) (field s (at + 12 + 32) (i16s s (at + 12) 16))
     → scale ≡ halfAt s (at + 46) → last ≡ signedAt s (at + 48) → oldest ≡ signedAt s (at + 50)
-    → rate ≡ wordAt s at → length ≡ longAt s (at + 4) → gain ≡ halfAt s (at + 44)
+    → rate ≡ wordAt s at → addresses ≡ longAt s (at + 4) → gain ≡ halfAt s (at + 44)
     → record {
       rate = rate;
-      length = length;
+      length = addresses;
       coefficients = cs;
       gain = gain;
       context = record { «predictor_and_scale» = scale; last = last; oldest = oldest };
@@ -73,8 +73,8 @@ module _ (s : List ℕ) (w : HpsWriter) (lent : List ℕ) {k : ℕ} (e : k ≡ w
 
 -- ---- The estimate
 
-pub estimate-read : (s : List ℕ) {blocks length other ch p : ℕ}
-    → blocks ≡ wordAt s 4 → length ≡ longAt s 8 → other ≡ longAt s 16 → ch ≡ wordAt s 24 → p ≡ wordAt s 28
-    → estimateIn s ≡ estimateReply (estimateOf ch (lengthsOf blocks length other) p)
+pub estimate-read : (s : List ℕ) {blocks first other ch p : ℕ}
+    → blocks ≡ wordAt s 4 → first ≡ longAt s 8 → other ≡ longAt s 16 → ch ≡ wordAt s 24 → p ≡ wordAt s 28
+    → estimateIn s ≡ estimateReply (estimateOf ch (lengthsOf blocks first other) p)
 unfolding estimateIn
 estimate-read s e f g h i = rw (e, f, g, h, i)

@@ -6,6 +6,7 @@ use lib.Dec.{eqb}
 use lib.IntN.{pos}
 use Rattle.layout.specs.Choice.{pick}
 use Rattle.layout.specs.Records.{field, i16s}
+use Rattle.layout.specs.Refusals.{blockLimit}
 use Rattle.layout.specs.Answers.{valueOr}
 use Rattle.layout_number_or_zero.specs.NumberOrZero.{halfAt, signedAt, wordAt, longAt}
 use Rattle.replay_input.specs.Parts.{partAt}
@@ -23,7 +24,7 @@ use Rattle.writer_estimate.specs.declared.EstimateReply.{EstimateReply}
 -- ---- What is done by a step: 0 which call, 4 and 28 what the caller looks at, else what the call is given
 
 -- 0 a point, 1 a loop, else a range of this length.
-unfoldable pub kindOf : (n length : ℕ) → CueKind
+unfoldable pub kindOf : (n range : ℕ) → CueKind
 kindOf n l = pick (eqb n 0) Point (pick (eqb n 1) Loop (Range l))
 
 -- A begin: 8 the slot's length, 12 channels, 16 mode.
@@ -64,9 +65,9 @@ madeAs s w lent =
 
 -- ---- The estimate
 
--- 1, 512 or 513 blocks of a length, or 2 with this length and another.
-unfoldable pub lengthsOf : (blocks length other : ℕ) → List ℕ
-lengthsOf n l o = pick (eqb n 1) (l ∷ []) (pick (eqb n 2) (l ∷ o ∷ []) (pick (eqb n 512) (replicate 512 l) (replicate 513 l)))
+-- One block of a length, as many as a stream may have, or one more; or two, with this length and another.
+unfoldable pub lengthsOf : (blocks first other : ℕ) → List ℕ
+lengthsOf n l o = pick (eqb n 1) (l ∷ []) (pick (eqb n 2) (l ∷ o ∷ []) (pick (eqb n blockLimit) (replicate blockLimit l) (replicate (blockLimit + 1) l)))
 
 -- The estimate of a case: 4 blocks, 8 length, 16 the other length, 24 channels, 28 p.
 unfoldable pub estimateIn : (body : List ℕ) → EstimateReply

@@ -128,7 +128,9 @@ pub fn make(step: &[u8], w: HpsWriter, lent: &mut [u8]) -> Called
     }
 }
 
-// A block more than an estimate takes.
+// As many blocks as an estimate takes, and one more.
+const MOST: u32 = BLOCK_LIMIT as u32;
+
 const TOO_MANY: usize = BLOCK_LIMIT + 1;
 
 fn estimate_of(blocks: u32, length: usize, other: usize, channels: usize, p: u32) -> EstimateReply
@@ -143,7 +145,7 @@ fn estimate_of(blocks: u32, length: usize, other: usize, channels: usize, p: u32
             let lengths = [length, other];
             estimate(&lengths, channels, p)
         }
-        512 => {
+        MOST => {
             let lengths = [length; BLOCK_LIMIT];
             estimate(&lengths, channels, p)
         }

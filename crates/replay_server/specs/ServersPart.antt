@@ -30,10 +30,10 @@ abbrev pub andThen : Applied → (List ℕ → Applied) → Applied
 andThen a f = pick (a .good) (f (a .slot)) a
 
 -- A write of so many bytes from a place of the lent buffer on, into the n bytes that the loading has of the slot.
-unfoldable pub writeApplied : (slot : List ℕ) (n : ℕ) → Place → (lent : List ℕ) (from length : ℕ) (opens : Bool) → Applied
-writeApplied s n p lent from l opens =
+unfoldable pub writeApplied : (slot : List ℕ) (n : ℕ) → Place → (lent : List ℕ) (from many : ℕ) (opens : Bool) → Applied
+writeApplied s n p lent from k opens =
     pick (leb (p .offset + p .length) n)
-    (applied (isDue (opening (partAt (putAt s (p .offset) (partAt lent from l)) 0 n)) opens) (putAt s (p .offset) (partAt lent from l)))
+    (applied (isDue (opening (partAt (putAt s (p .offset) (partAt lent from k)) 0 n)) opens) (putAt s (p .offset) (partAt lent from k)))
     (applied false s)
 
 -- Finish's three writes: the slot opens after the last one, and not before.
@@ -44,7 +44,7 @@ headerApplied s n x y z lent =
     writeApplied u n z lent 127 1 true))
 
 -- A reply held to the number due, 0 where the call is accepted, and to the finished length.
-unfoldable pub replyApplied : (slot : List ℕ) (n : ℕ) → Reply → (due length : ℕ) (lent : List ℕ) → Applied
+unfoldable pub replyApplied : (slot : List ℕ) (n : ℕ) → Reply → (due finished : ℕ) (lent : List ℕ) → Applied
 replyApplied s n (Refused k) due l lent = applied (eqb k due) s
 replyApplied s n NoWrite due l lent = applied (eqb due 0) s
 replyApplied s n (OneWrite p) due l lent = pick (eqb due 0) (writeApplied s n p lent 0 (p .length) false) (applied false s)

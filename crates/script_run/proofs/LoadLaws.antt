@@ -33,22 +33,22 @@ follows {s} {at} next {st} {logged} {lent = lent} call h d l k made e =
     }
 
 -- The lines before this place are carried out.
-pub record Walked (s : List ℕ) (from : ℕ) (start : Loading) (logged : List ℕ) (at : ℕ) (st : Loading) (now : List ℕ) : Type 0 where
-  pub long : length now ≡ length logged
+pub record Walked (s : List ℕ) (from : ℕ) (start : Loading) (logged : List ℕ) (at : ℕ) (st : Loading) (bytes : List ℕ) : Type 0 where
+  pub long : length bytes ≡ length logged
   pub good : Good (st .writer)
-  pub is : allOf st now (linesOf (drop at s)) ≡ allOf start logged (linesOf (drop from s))
+  pub is : allOf st bytes (linesOf (drop at s)) ≡ allOf start logged (linesOf (drop from s))
 
 pub walked-none : {s : List ℕ} {from : ℕ} {start : Loading} {logged : List ℕ} → Good (start .writer) → Walked s from start logged from start logged
 walked-none g = record { long = refl; good = g; is = refl }
 
-module _ {s : List ℕ} {from : ℕ} {start : Loading} {logged : List ℕ} {at : ℕ} {st : Loading} {now : List ℕ} (w : Walked s from start logged at st now) where
-  pub walked-more : {next : ℕ} {q : Loading} {after : List ℕ} → length after ≡ length now → drop next s ≡ linesAfter (drop at s) → Follows s at st now q after → Walked s from start logged next q after
+module _ {s : List ℕ} {from : ℕ} {start : Loading} {logged : List ℕ} {at : ℕ} {st : Loading} {bytes : List ℕ} (w : Walked s from start logged at st bytes) where
+  pub walked-more : {next : ℕ} {q : Loading} {after : List ℕ} → length after ≡ length bytes → drop next s ≡ linesAfter (drop at s) → Follows s at st bytes q after → Walked s from start logged next q after
   walked-more n d f = record { long = n ∙ w .long; good = f .good; is = rw d (f .is ∙ w .is) }
 
-  pub walked-all : length s ≤ at → logging (st .log) now ≡ allOf start logged (linesOf (drop from s))
+  pub walked-all : length s ≤ at → logging (st .log) bytes ≡ allOf start logged (linesOf (drop from s))
   unfolding allOf callsIn logRun
   walked-all h =
-      let e : allOf st now (linesOf (drop at s)) ≡ logging (st .log) now = rw (drop-of-length-le s {i = at} h, lines-none) in
+      let e : allOf st bytes (linesOf (drop at s)) ≡ logging (st .log) bytes = rw (drop-of-length-le s {i = at} h, lines-none) in
       sym e ∙ w .is
 
 -- What comes after begin.

@@ -42,7 +42,8 @@ pub walked-none : {s : List ℕ} {from : ℕ} {start : Loading} {logged : List �
 walked-none g = record { long = refl; good = g; is = refl }
 
 module _ {s : List ℕ} {from : ℕ} {start : Loading} {logged : List ℕ} {at : ℕ} {st : Loading} {bytes : List ℕ} (w : Walked s from start logged at st bytes) where
-  pub walked-more : {next : ℕ} {q : Loading} {after : List ℕ} → length after ≡ length bytes → drop next s ≡ linesAfter (drop at s) → Follows s at st bytes q after → Walked s from start logged next q after
+  pub walked-more : {next : ℕ} {q : Loading} {after : List ℕ} → length after ≡ length bytes → drop next s ≡ linesAfter (drop at s)
+      → Follows s at st bytes q after → Walked s from start logged next q after
   walked-more n d f = record { long = n ∙ w .long; good = f .good; is = rw d (f .is ∙ w .is) }
 
   pub walked-all : length s ≤ at → logging (st .log) bytes ≡ allOf start logged (linesOf (drop from s))

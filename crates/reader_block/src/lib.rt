@@ -37,7 +37,7 @@ pub struct BlockCall {
 }
 
 // A channel of the record, zeros where there is no such channel.
-fn channel_of(channels: [Channel; 2], channel: usize) -> Channel
+pub fn channel_of(channels: [Channel; 2], channel: usize) -> Channel
     ensures { λ c. ⌜ c ≡ getD channels channel noChannel ⌝ }
 {
     if channel < 2 {

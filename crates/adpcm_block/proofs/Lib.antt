@@ -1,0 +1,4 @@
+pub mod CountLaws
+pub mod FrameLaws
+pub mod HalfLaws
+pub mod IntoLaws

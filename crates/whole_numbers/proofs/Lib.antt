@@ -1,0 +1,2 @@
+pub mod FloorLaw
+pub mod WholeLaws

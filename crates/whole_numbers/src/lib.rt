@@ -1,0 +1,22 @@
+// Whole numbers that fit 16 bits: their product, and a number brought into them. Every argument is taken, and nothing wraps.
+ghost use mathlib.Core.Path.{_≡_};
+ghost use lib.IntN.{_*ℤ_};
+ghost use Rattle.whole_numbers.specs.Whole.{clamped};
+
+// The product of two numbers, whole.
+pub fn product(a: i16, b: i16) -> i64
+    ensures { λ r. ⌜ r ≡ a *ℤ b ⌝ }
+{
+    a as i64 * b as i64
+}
+
+// The nearest number of 16 bits.
+pub fn clamp_i16(z: i64) -> i16
+    ensures { λ r. ⌜ r ≡ clamped z ⌝ }
+{
+    if z < -32768 {
+        -32768
+    } else {
+        if z > 32767 { 32767 } else { z as i16 }
+    }
+}

@@ -8,7 +8,7 @@ use lib.ListN.{length, drop, length-append, length-drop}
 use lib.Seq.{length-take-le}
 use lib.IntN.{ℤ}
 use lib.Dec.{leb, ltb, eqb}
-use borrow.Author.Tests.{le-leb, lt-leb, leb-true, le-ltb}
+use borrow.Author.Tests.{leb-true, le-ltb}
 use Rattle.layout.specs.Choice.{pick}
 use Rattle.layout.specs.Lists.{All, more}
 use Rattle.layout.specs.Records.{field, adpcmBytes, adpcmSamples, addressToByteUp, noChannel}
@@ -20,11 +20,12 @@ use Rattle.reader.specs.OpeningAndReading.{BlockAnswer, channelIn, offsetIn, by
 use Rattle.reader.specs.declared.HpsReader.{HpsReader}
 use Rattle.reader.proofs.HeaderLaws.{header-cases}
 use Rattle.adpcm_block.specs.Block.{blockDecoded, decodedInto}
-use Rattle.reader_decode.specs.Decoding.{DecodeAnswer, onBlock, decoding, decoderAt}
+use Rattle.reader_decode.specs.Decoding.{DecodeAnswer, onBlock, decoding, decoderAt, heard}
+use Rattle.reader_decode.proofs.DecodingLaws.{no-channel, by-block}
 use Rattle.writer.specs.Loading.{filled, second}
 use Rattle.power_cut.specs.LoadingBook.{Block, Book, openingOf}
 use Rattle.power_cut.specs.Consequences.{WholeList, bookOf, Finished, finishedRecord, EachBlockBack, NoBlockBack}
-use Rattle.power_cut_decoding.specs.DecodesAsPushed.{samplesIn, pushedDecoded, EachBlockDecoded, NoBlockDecoded, heard, WholeChannelDecoded}
+use Rattle.power_cut_decoding.specs.DecodesAsPushed.{samplesIn, pushedDecoded, EachBlockDecoded, NoBlockDecoded, WholeChannelDecoded}
 
 -- ---- What block read gives
 
@@ -51,15 +52,10 @@ read-long s r ch i =
 -- ---- Decoding
 
 module _ (s : List ℕ) (r : HpsReader) (ch i places : ℕ) where
-  pub decoding-none : r .count ≤ ch → decoding s r ch i places ≡ DecodeAnswer.refused 6
-  unfolding decoding
-  decoding-none h = rw (le-leb (r .count) ch h)
-
   module _ (h : ch < r .count) (a : channelIn r ch .format ≡ Adpcm) where
     -- it goes by what block read gives
-    pub decoding-is : decoding s r ch i places ≡ onBlock (blockRead s r ch i) places
-    unfolding decoding
-    decoding-is = rw (lt-leb (r .count) ch h) (rw a)
+    decoding-is : decoding s r ch i places ≡ onBlock (blockRead s r ch i) places
+    decoding-is = by-block s r ch i places h (rw a)
 
     pub decoding-ended : blockRead s r ch i ≡ BlockAnswer.ended → decoding s r ch i places ≡ DecodeAnswer.ended
     unfolding onBlock
@@ -90,7 +86,7 @@ each-block-decoded back l slot f before after k e ch h places =
 pub no-block-decoded : NoBlockBack → NoBlockDecoded
 unfolding NoBlockBack NoBlockDecoded openingOf
 no-block-decoded back l slot f ch i places = (
-  λ h. decoding-none slot (finishedRecord l) ch i places h,
+  λ h. no-channel slot (finishedRecord l) ch i places h,
   λ h p. decoding-ended slot (finishedRecord l) ch i places h (opening-adpcm (bookOf l) ch) (back l slot f ch i .1 h p),
 )
 

@@ -1,17 +1,15 @@
 -- Hearing the block (document 02, Card 1): what decoding gives once a loading is finished, from what was pushed.
-use Prim.Native.Nat.{ℕ, zero, suc, _+_, _<_, _≤_}
+use Prim.Native.Nat.{ℕ, _+_, _<_, _≤_}
 use mathlib.Core.Path.{_≡_}
-use mathlib.Core.List.{List, [], _∷_, _++_, flatMap}
+use mathlib.Core.List.{List, _∷_, _++_, flatMap}
 use lib.ListN.{length}
 use lib.Dec.{ltb}
-use lib.IntN.{ℤ}
 use Rattle.layout.specs.Choice.{pick}
 use Rattle.layout.specs.Lists.{All}
 use Rattle.layout.specs.Records.{adpcmSamples}
 use Rattle.reader.specs.declared.HpsReader.{HpsReader}
 use Rattle.adpcm_block.specs.Block.{Decoded, blockDecoded}
-use Rattle.reader_decode.specs.Decoding.{DecodeAnswer, decoding, newDecoder, decoderAfter}
-use Rattle.reader_decode.specs.declared.Decoder.{Decoder}
+use Rattle.reader_decode.specs.Decoding.{DecodeAnswer, decoding, newDecoder, heard}
 use Rattle.writer.specs.Loading.{lengthOf}
 use Rattle.power_cut.specs.LoadingBook.{Block, firstSide, sideOf}
 use Rattle.power_cut.specs.Consequences.{WholeList, bookOf, Finished, finishedRecord}
@@ -44,18 +42,6 @@ NoBlockDecoded =
     (l : WholeList) (slot : List ℕ) → Finished l slot → (channel position places : ℕ)
     → (bookOf l .channels ≤ channel → decodes slot (finishedRecord l) channel position places ≡ DecodeAnswer.refused 6)
     × (channel < bookOf l .channels → length (bookOf l .blocks) ≤ position → decodes slot (finishedRecord l) channel position places ≡ DecodeAnswer.ended)
-
--- The samples that a call gives: none where it is refused or at the end.
-abbrev pub heardIn : DecodeAnswer → List ℤ
-heardIn (DecodeAnswer.refused n) = []
-heardIn DecodeAnswer.ended = []
-heardIn (DecodeAnswer.gave d i) = d .samples
-
--- The samples that so many calls give one after the other, each from the decoder that the one before it leaves.
-unfoldable pub heard : (calls : ℕ) → List ℕ → HpsReader → (channel : ℕ) → Decoder → (places : ℕ) → List ℤ
-heard zero s r ch d places = []
-heard (suc n) s r ch d places =
-    let a = decodes s r ch (d .position) places in heardIn a ++ heard n s r ch (decoderAfter d a) places
 
 -- From a new decoder, with places for each block, a call for each block or more give the whole channel: the samples of its blocks in order, and no others.
 unfoldable pub WholeChannelDecoded : Type 0

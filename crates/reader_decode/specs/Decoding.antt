@@ -1,7 +1,7 @@
 -- Hearing the block (document 02, Card 1): the decoding call on a slot.
-use Prim.Native.Nat.{ℕ}
+use Prim.Native.Nat.{ℕ, zero, suc}
 use mathlib.Core.Bool.{Bool, true, false}
-use mathlib.Core.List.{List}
+use mathlib.Core.List.{List, [], _++_}
 use lib.ListN.{length}
 use lib.Dec.{leb}
 use lib.IntN.{ℤ}
@@ -78,3 +78,22 @@ samplesAfter lent (DecodeAnswer.gave d i) = filledWith (d .samples) lent
 
 abbrev pub decodeCall : Decoder → DecodeAnswer → DecodeCall
 decodeCall d a = record { reply = replyOf a; decoder = decoderAfter d a }
+
+-- ---- Call after call
+
+-- The samples that a call gives: none where it is refused or at the end.
+abbrev pub heardIn : DecodeAnswer → List ℤ
+heardIn (DecodeAnswer.refused n) = []
+heardIn DecodeAnswer.ended = []
+heardIn (DecodeAnswer.gave d i) = d .samples
+
+-- The decoder after so many calls, each from the decoder that the one before it leaves.
+unfoldable pub decoderOn : (calls : ℕ) → List ℕ → HpsReader → (channel : ℕ) → Decoder → (places : ℕ) → Decoder
+decoderOn zero s r ch d places = d
+decoderOn (suc n) s r ch d places = decoderOn n s r ch (decoderAfter d (decoding s r ch (d .position) places)) places
+
+-- The samples that they give, one after the other.
+unfoldable pub heard : (calls : ℕ) → List ℕ → HpsReader → (channel : ℕ) → Decoder → (places : ℕ) → List ℤ
+heard zero s r ch d places = []
+heard (suc n) s r ch d places =
+    let a = decoding s r ch (d .position) places in heardIn a ++ heard n s r ch (decoderAfter d a) places

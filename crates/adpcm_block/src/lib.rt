@@ -164,10 +164,12 @@ pub fn decode_block(
     ensures { λ _. ⌜ now (samples .exit)
         ≡ lentAfter (decodedInto (length (now (samples .entry))) (now (coefficients .entry)) context n (now (block .entry))) (now (samples .entry)) ⌝ }
 {
-    if block.len() < adpcm_bytes(n) {
+    let bytes = adpcm_bytes(n);
+    let count = adpcm_samples(n);
+    if block.len() < bytes {
         return ContextRead::Refused(1);
     }
-    if samples.len() < adpcm_samples(n) {
+    if samples.len() < count {
         return ContextRead::Refused(14);
     }
     let ps = context.predictor_and_scale;

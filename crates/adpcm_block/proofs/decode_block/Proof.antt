@@ -1,4 +1,4 @@
-use Prim.Native.Nat.{_≤_}
+use Prim.Native.Nat.{_≤_, _<_}
 use native.Mathlib.Omega.{arith}
 use lib.ListN.{length}
 use mir.Syntax.{w16}
@@ -12,37 +12,41 @@ use Rattle.adpcm_block.proofs.decode_block.Tie as tie
 
 returns : tie.Need-returns
 returns c =
-    let a = c .before .before .before .args in
-    let h = simp (c .before .adpcm-bytes .ensures) at (c .if1 .taken) in
+    let a = c .before .before .before .before .args in
+    let h : length (a .block .now) < adpcmBytes (a .n) = omega (arith, c .before .before .adpcm-bytes .ensures, c .if1 .taken) in
     refused-leaves _ _ _ _ _ _ (data-short _ (a .coefficients .now) (a .context) (a .n) (a .block .now) h)
+
+-- all of the data is there
+whole : (c : tie.Else1) → adpcmBytes (c .before .before .before .before .args .n) ≤ length (c .before .before .before .before .args .block .now)
+whole c = omega (arith, c .before .before .adpcm-bytes .ensures, c .if1 .left)
 
 returns-2 : tie.Need-returns-2
 returns-2 c =
     let a = c .before .before .before .before .before .args in
-    let h : adpcmBytes (a .n) ≤ length (a .block .now) = omega (arith, c .before .before .before .adpcm-bytes .ensures, c .before .before .if1 .left) in
-    let l = simp (c .before .adpcm-samples .ensures) at (c .if2 .taken) in
-    refused-leaves _ _ _ _ _ _ (places-few _ (a .coefficients .now) (a .context) (a .n) (a .block .now) h l)
+    let l : length (a .samples .now) < adpcmSamples (a .n) = omega (arith, c .before .before .adpcm-samples .ensures, c .if2 .taken) in
+    refused-leaves _ _ _ _ _ _ (places-few _ (a .coefficients .now) (a .context) (a .n) (a .block .now) (whole (c .before)) l)
+
+-- and a place for each sample
+room : (c : tie.Else2) → adpcmSamples (c .before .before .before .before .before .args .n) ≤ length (c .before .before .before .before .before .args .samples .now)
+room c = omega (arith, c .before .before .adpcm-samples .ensures, c .if2 .left)
 
 returns-3 : tie.Need-returns-3
 returns-3 c =
-    let b = c .before .before .before .before .before .before .before .before .before .before in
-    let a = b .args in
+    let a = c .before .before .before .before .before .before .before .before .before .before .args in
     let q = c .before .decode-frames in
     let f : SFits w16 (a .context .last) = search (needs, c .before .before .before .before .struct-told .given) in
     let g : SFits w16 (a .context .oldest) = search (needs, c .before .before .before .struct-told2 .given) in
-    let h : adpcmBytes (a .n) ≤ length (a .block .now) = omega (arith, c .before .before .before .before .before .before .before .before .adpcm-bytes .ensures, c .before .before .before .before .before .before .before .if1 .left) in
-    let l : adpcmSamples (a .n) ≤ length (a .samples .now) = omega (arith, c .before .before .before .before .before .before .adpcm-samples .ensures, c .before .before .before .before .before .if2 .left) in
     let e = simp (toZ-ofZ f, toZ-ofZ g) at (q .ensures) in
-    decoded-fills _ (a .coefficients .now) (a .context) (a .n) (a .block .now) h l (a .samples .now) (e .0) (e .1)
+    decoded-fills _ (a .coefficients .now) (a .context) (a .n) (a .block .now) (whole (c .before .before .before .before .before .before)) (room (c .before .before .before .before .before)) (a .samples .now) (e .0) (e .1)
 
 pub decode-block-spec : {M : Type 1} → statement M
 decode-block-spec =
     tie.close
     (tie.spec
     (λ c κs. search needs)
+    (λ c κs. search needs)
     returns
-    (λ c κs. search needs)
     returns-2
-    (λ c κs. search needs)
+    (λ c κs. (whole (c .before .before .before .before), room (c .before .before .before)))
     (λ c. search needs)
     returns-3)

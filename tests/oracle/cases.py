@@ -1,30 +1,39 @@
-"""Cases of the program `replay`: a slot, a loading or the arguments of an estimate, with the answers that they must have.
+"""Cases of the program `replay`: a slot, a loading, the arguments of an estimate or a slot to decode, with the answers that they must have.
 
-A case has a kind (1 slot, 2 loading, 3 estimate), a length and so many bytes; numbers are u32, big-endian, two of them for a u64.
+A case has a kind (1 slot, 2 loading, 3 estimate, 4 decoding), a length and so many bytes; numbers are u32, big-endian, two of them for a u64.
   slot      the slot's length; how many bytes follow, the others being 0, and these; the listing's length and the listing; then, if the slot opens, its two
             channels (60 bytes each: looping, format, loop, end and current address, coefficients, gain, context), and for each channel and position asked for
             these two, the answer (76 bytes: of the addresses remaining the refusal or 0, and the addresses; of the block read the refusal, 0 for a block or
             4,294,967,295 for the end, by how much the position moved on, rate, format, length, coefficients, gain, context), the data's length and the data
   loading   steps, each with its length before it (loadings.py says what they hold)
   estimate  the refusal or 0; how many blocks (1, 2, 512 or 513), the length of each (u64), of the second where there are 2 (u64), channels, p; the estimate
+  decoding  the slot's length; how many bytes follow, the others being 0, and these; then the calls one after the other (36 bytes: channel, position and
+            context of the decoder that goes in, how many places are lent; the refusal, 0 for samples or 4,294,967,295 for the end, position and context of the
+            decoder that comes out, how many samples) and after each its samples, 16 bits each
 
 The answers are the Rust's, and document 01's where docs/DIFFERENCES.md has a difference: D2 and D3 are in the oracle's `key`; D5: a channel not below
 the count is refused with 6; D7: the Rust gives no coefficients, gain and context for a PCM block, so they are those of its channel and of its block's
 header; D9a: positions past the end. In mono the second channel is zeros. The estimate is not in the Rust: its answers are by document 01's formula.
+In decoding D26: where the Rust's sum wraps, the samples are by document 02's text (decodings.py); D27: a refusal leaves the position; D28: a PCM channel is
+refused with 30. The Rust lends no places: 14 is document 02's alone. The context that goes in is drawn by lot, since no answer may go by it.
 """
 import itertools
 import os
+import random
 import re
 import struct
 import subprocess
 from collections import Counter
 
+from decodings import ADPCM, HIGH, LOW, decoded, in_32_bits
 from inputs import END
-from loadings import NAMES, made_of
+from loadings import NAMES, Disagreement, made_of
 from orders import LISTED, bytes_for, up
+from pushes import Unbroken
 
-SLOT, LOADING, ESTIMATE = 1, 2, 3
+SLOT, LOADING, ESTIMATE, DECODING = 1, 2, 3, 4
 MOST = 690000  # of what the program takes
+PLACES = 8192  # that the program can lend
 
 
 def case(kind, body):
@@ -187,6 +196,127 @@ def estimates():
         yield estimate_case(blocks, length, channels, 0)
     for length, other in ((2, 16), (16, 131072), (0, 131073), (131073, 0), (1, 131073), (131073, 1), (2, 1), (2, 131073), (2, 2**62 + 2), (2**62 + 2, 0)):
         yield estimate_case(2, length, 1, 0, other)
+
+
+# ---- Decoding
+
+def read_blocks(lines, number):
+    """The arguments of `decoded` for each block of a channel, None where the Rust refused to read it."""
+    found = [re.fullmatch(r"READ \d+ \d+ (?:STOP 1|.* format=0 len=(\d+) coef=(\S+) gain=\d+ ctx=(\S+) data=(\S+))", line)
+             for line in lines if line.startswith(f"READ {number} ")]
+    return [m and m[1] and (numbers(m[2]), numbers(m[3]), int(m[1]), bytes.fromhex(m[4].strip("-"))) for m in found]
+
+
+def read_lengths(lines, number):
+    """The blocks' lengths: by how much the addresses remaining become fewer."""
+    left = [int(line.split()[3]) for line in lines if line.startswith(f"LEFT {number} ")]
+    return [here - after for here, after in itertools.pairwise(left)]
+
+
+def rust_decodings(lines, number):
+    """What the Rust's decoder gives of a channel, position by position: how it ends, or the samples, and the context after it."""
+    found = [line.split(maxsplit=4) for line in lines if line.startswith(f"PCM {number} ")]
+    return [(rest, tuple(numbers(after[6:]))) for _, _, _, after, rest in found]
+
+
+def expected(blocks, rust, counts):
+    """The answer due of each block of an ADPCM channel: the samples and the context after them, None where it is 1. The Rust must have it, but for D26."""
+    made, standing = [], (0, 0, 0)
+    for position, (arguments, (given, after)) in enumerate(zip(blocks + ["DONE"], rust, strict=True)):
+        if arguments in (None, "DONE"):
+            if (given, after) != ("STOP 1" if arguments is None else "DONE", standing):
+                raise Disagreement(f"the Rust's decoder at position {position}: {given[:40]}")
+            made += [None] * (arguments is None)
+            continue
+        samples, context, beyond = decoded(*arguments)
+        wrapped = decoded(*arguments, in_32_bits) if beyond else (samples, context)
+        if (given, after) != (f"len={len(samples)} data={','.join(map(str, wrapped[0]))}", wrapped[1]):
+            raise Disagreement("the Rust's samples, or its context after them, and those by the card's text")
+        counts["blocks in which the Rust's sum wraps (D26)"] += beyond
+        counts["blocks decoded"] += 1
+        counts["samples"] += len(samples)
+        made.append((samples, context))
+        standing = after
+    return made
+
+
+class Calls:
+    """Decoding calls and their answers, as they are recorded."""
+
+    def __init__(self, slot, counts):
+        self.draw, self.counts, self.made = random.Random(slot), counts, []
+
+    def add(self, channel, position, places, reply, samples=(), after=None, also=()):
+        """A call; `also` are the numbers that would be due but for the reply."""
+        before = (self.draw.randrange(65536), self.draw.randint(LOW, HIGH), self.draw.randint(LOW, HIGH))
+        out = (position, *before) if after is None else (position + 1, *after)
+        self.made.append(struct.pack(">IIHhhIIIHhhI", channel, position, *before, places, reply, *out, len(samples)) + struct.pack(f">{len(samples)}h", *samples))
+        name = {0: "accepted", END: "at the end"}.get(reply, f"refused with {reply}")
+        self.counts[f"calls {name}"] += 1
+        for number in also:
+            self.counts[f"calls {name} where {number} comes later"] += 1
+
+    def past(self, end):
+        """A position after the last block."""
+        return self.draw.choice((end, end, end + 1, end + 2, END - 1))
+
+    def adpcm(self, channel, blocks, lengths):
+        for position, block in enumerate(blocks):
+            if block is None:
+                self.add(channel, position, 0, 1, also=(14,) if lengths[position] > 2 else ())
+                self.add(channel, position, PLACES, 1)
+                continue
+            samples, after = block
+            fewer = min(len(samples), PLACES + 1)
+            if fewer:
+                self.add(channel, position, fewer - self.draw.choice((1, 1, 1, fewer)), 14)
+            if len(samples) <= PLACES:
+                self.add(channel, position, min(len(samples) + self.draw.choice((0, 0, 1, 9)), PLACES), 0, samples, after)
+        self.add(channel, len(blocks), 0, END)
+        self.add(channel, self.past(len(blocks)), 3, END)
+
+    def pcm(self, channel, reads):
+        """`reads` has None where the Rust refuses to read the block."""
+        for position, read in enumerate(reads):
+            self.add(channel, position, 0, 30, also=(1,) if read is None else ())
+        self.add(channel, self.past(len(reads)), 0, 30, also=("the end",))
+
+    def beyond(self, formats, end):
+        """Channels not below the count, where these are the formats of those below it."""
+        also = () if ADPCM in formats else (30,)
+        self.add(len(formats), 0, 5, 6, also=also)
+        self.add(len(formats), self.past(end), 5, 6, also=also + ("the end",))
+        self.add(self.draw.choice((2, 3, END)), 0, 0, 6)
+
+
+def decode_case(oracle, slot, counts):
+    lines = oracle.ask("decode", slot)
+    if lines[0].startswith(("STOP", "PANIC")):
+        raise Unbroken(lines[0])  # nothing to decode
+    calls = Calls(slot, counts)
+    formats = [int(line.split()[3][7:]) for line in lines if line.startswith("CHAN")]
+    for number, format_ in enumerate(formats):
+        blocks, rust = read_blocks(lines, number), rust_decodings(lines, number)
+        if format_ == ADPCM:
+            calls.adpcm(number, expected(blocks, rust, counts), read_lengths(lines, number))
+            continue
+        name = "PcmS16Be" if format_ == 10 else "PcmS8"
+        reads = [given == f"STOP UnsupportedFormat({name})" or None for given, _ in rust[:-1]]
+        if [given for given, _ in rust] != [f"STOP UnsupportedFormat({name})" if read else "STOP 1" for read in reads] + ["DONE"]:
+            raise Disagreement("the Rust's decoder of a PCM channel")
+        calls.pcm(number, reads)
+    calls.beyond(formats, len(blocks))
+    stored = slot.rstrip(b"\0")
+    return case(DECODING, struct.pack(">II", len(slot), len(stored)) + stored + b"".join(calls.made))
+
+
+def call_at(made, number):
+    """What is asked and recorded in the call of this number."""
+    at = 16 + struct.unpack_from(">I", made, 12)[0]
+    for _ in range(number):
+        at += 36 + 2 * struct.unpack_from(">I", made, at + 32)[0]
+    channel, reply = struct.unpack_from(">I14xI", made, at)
+    return channel, {0: "give samples", END: "give the end"}.get(reply, f"be refused with {reply}")
 
 
 # ---- The program

@@ -5,7 +5,7 @@ usage: differences.py RELEASE [CHECKED [OLD]]
        differences.py -i FOLDER
 
 RELEASE, CHECKED and OLD are the programs that build.sh names, OLD the one of its -n. A run is good if
-the Rust gives what entries.py records, and if that differs from document 01's answer, or equals it
+the Rust gives what entries.py records, and if that differs from the document's answer, or equals it
 where the run says so. Without CHECKED or OLD the runs that need it are left out; an entry that shows
 no difference without them is listed as not run, and not counted.
 
@@ -49,10 +49,10 @@ def told(run, now):
     if now != run.rust:
         return f"{run.what}: recorded {short(run.rust)}, now {short(now)}", False
     if run.same != (run.document == run.rust):
-        return f"{run.what}: document 01 {short(run.document)}, the Rust {short(run.rust)}, wrongly marked", False
+        return f"{run.what}: the document {short(run.document)}, the Rust {short(run.rust)}, wrongly marked", False
     if run.same:
         return f"{run.what}: both {short(run.rust)}", True
-    return f"{run.what}: document 01 {short(run.document)}, the Rust {short(run.rust)}", True
+    return f"{run.what}: the document {short(run.document)}, the Rust {short(run.rust)}", True
 
 
 def outcome(runs, good, left_out):

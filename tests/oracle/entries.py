@@ -1,12 +1,12 @@
-"""The entries of docs/DIFFERENCES.md: inputs, document 01's answers and the Rust's.
+"""The entries of docs/DIFFERENCES.md: inputs, the document's answers and the Rust's.
 
-The quotations are the sentences of document 01 that its answer comes from.
+The quotations are the sentences of document 01 that its answer comes from, in the section on hearing the block those of document 02.
 """
 from dataclasses import dataclass
 from typing import Callable
 
 from inputs import END, block, chain, header, left, mono, right, stereo
-from views import (RATE, count_byte, end_address, end_addresses, ending, ending_in_mono, ending_in_two, exact_listing, first, first_channel, last,
+from views import (RATE, count_byte, end_address, end_addresses, ending, ending_in_mono, ending_in_two, exact_listing, first, first_channel, heard, last,
                    like_a_file, listing, loaded, opening, reads, second_channel, size, whole)
 
 
@@ -233,6 +233,32 @@ def after(count, due):
     ]
 
 
+def hearing_the_block():
+    # "Sums are whole numbers that never overflow; a place where the Rust would wrap or panic is recorded as a difference."
+    lowest = block(end=2, context=(0, -32768, -32768)) + bytes(2)
+    beyond, near = (header(coefficients=(-32768, second) + (0,) * 14) + lowest for second in (-32768, -32767))
+    highest = "PCM 0 0 after=0,32767,-32768 len=1 data=32767 / PCM 0 1 after=0,32767,-32768 DONE"
+    yield Entry("D26", "a sum beyond 32 bits", [
+        Run("162 bytes", "decode", beyond, highest, "PCM 0 0 after=0,-32768,-32768 len=1 data=-32768 / PCM 0 1 after=0,-32768,-32768 DONE", heard),
+        Run("162 bytes, with overflow checks", "decode", beyond, highest, "PANIC attempt to add with overflow", heard, build="checked"),
+        both("one coefficient -32,767", "decode", near, highest, heard),
+        Run("one coefficient -32,767, with overflow checks", "decode", near, highest, highest, heard, build="checked", same=True),
+    ])
+    # "A refused decoding moves neither the position nor what passes on."
+    yield Entry("D27", "a block whose data leaves the slot, and a block after it", [
+        Run("194 bytes", "decode", header() + block(end=9998, next=160) + block(end=2) + b"\x00\x50", "1 at position 0, and position 0 again",
+            "PCM 0 0 after=0,0,0 STOP 1 / PCM 0 1 after=0,5,0 len=1 data=5 / PCM 0 2 after=0,5,0 DONE", heard),
+    ])
+    # "It refuses with 30 when the channel isn't ADPCM, checked right after 6 and before the end"
+    yield Entry("D28", "decoding of PCM", [
+        Run(what, "decode", header(number) + block() + bytes(count), "30 at position 0, 1 and all later ones",
+            f"PCM 0 0 after=0,0,0 STOP {theirs} / PCM 0 1 after=0,0,0 DONE", heard)
+        for what, number, count, theirs in (
+            ("PCM16", 10, 4, "UnsupportedFormat(PcmS16Be)"), ("PCM16, a byte short", 10, 3, "1"),
+            ("PCM8", 25, 2, "UnsupportedFormat(PcmS8)"), ("PCM8, a byte short", 25, 1, "1"))
+    ])
+
+
 def same_in_both():
     # "Any offset is allowed, 0 and odd ones too." At 0 the file header is read as a block: `PST` and a zero are its
     # end address, the rate its next offset. Samples: 1,347,638,273 mod 16 is 1, so n becomes 1,347,638,274, and
@@ -325,4 +351,5 @@ def same_in_both():
 def entries():
     yield from opening_and_reading()
     yield from loading()
+    yield from hearing_the_block()
     yield from same_in_both()

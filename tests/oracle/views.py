@@ -29,6 +29,11 @@ def reads(program, lines):
     return joined(line for line in lines if line.startswith("READ"))
 
 
+def heard(program, lines):
+    """What the decoder gave, position by position; or the panic."""
+    return joined(line for line in lines if line.startswith(("PCM", "PANIC")))
+
+
 def ending(program, lines):
     """How a loading ended."""
     return lines[0].split()[0]

@@ -1,6 +1,7 @@
 // Recorded cases of the Rust's answers, and of the estimate, held to our calls. Standard input has the cases one after the other, each a kind
-// (1 slot, 2 loading, 3 estimate), a length (both u32, big-endian) and so many bytes; tests/oracle/cases.py makes them and says what lies where. Prints each
-// case in which something is other than recorded, with its place there, then the counts.
+// (1 slot, 2 loading, 3 estimate, 4 decoding), a length (both u32, big-endian) and so many bytes; tests/oracle/cases.py makes them and says what lies where.
+// Prints each case in which something is other than recorded, with its place there, then the counts.
+use crate::decoding::decoding_case;
 use crate::estimates::estimate_case;
 use crate::loading::loading_case;
 use crate::slot::slot_case;
@@ -15,6 +16,7 @@ use replay_input::part;
 use replay_input::report::report_case;
 use replay_input::size;
 
+mod decoding; // decoding.rt: the blocks of a slot decoded into lent places
 mod estimates; // estimates.rt: the estimate
 mod loading; // loading.rt: begin, cues, pushes and finish over a slot's earlier content
 mod slot; // slot.rt: the listing of a slot and every block read
@@ -27,6 +29,7 @@ fn other_in(kind: u32, body: &[u8]) -> usize {
         1 => slot_case(body),
         2 => loading_case(body),
         3 => estimate_case(body),
+        4 => decoding_case(body),
         _ => 1,
     }
 }

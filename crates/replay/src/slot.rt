@@ -72,7 +72,7 @@ fn is_format(format: DspFormat, n: u32) -> bool {
     }
 }
 
-fn is_context(context: FrameContext, want: &[u8], at: usize) -> bool
+pub(crate) fn is_context(context: FrameContext, want: &[u8], at: usize) -> bool
     requires { ⌜ at < blockLimit ⌝ }
 {
     (context.predictor_and_scale == half(want, at))
@@ -225,7 +225,7 @@ fn other_read(s: &[u8], body: &[u8], at: usize) -> usize
     2
 }
 
-fn whole_slot() -> [u8; LONGEST]
+pub(crate) fn whole_slot() -> [u8; LONGEST]
     ensures { λ r. ⌜ 65537 ≡ length r ⌝ }
 {
     [0; LONGEST]

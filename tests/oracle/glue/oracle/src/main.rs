@@ -5,7 +5,9 @@ mod loading;
 mod reading;
 
 use answers::{bytes, hex};
+use std::fs::File;
 use std::io::{self, BufRead, Read, Write};
+use std::os::fd::AsFd;
 use std::panic::{AssertUnwindSafe, catch_unwind, set_hook};
 
 /// The answer of a command that takes a slot.
@@ -48,6 +50,18 @@ fn serve(mut out: impl Write) -> io::Result<()> {
     Ok(())
 }
 
+/// The samples of the channel that the second word names, to standard output. Its own buffer, which looks for the ends of lines, is passed by.
+fn pcm(slot: &[u8], mut out: impl Write + AsFd) -> io::Result<()> {
+    let channel = std::env::args().nth(2).and_then(|word| word.parse().ok()).unwrap_or(0);
+    out.flush()?;
+    let out = File::from(out.as_fd().try_clone_to_owned()?);
+    if let Err(e) = reading::pcm(slot, channel, out) {
+        eprintln!("STOP {}", answers::refusal(&e));
+        std::process::exit(1);
+    }
+    Ok(())
+}
+
 fn main() -> io::Result<()> {
     let command = std::env::args().nth(1).unwrap_or_default();
     let mut out = io::stdout().lock();
@@ -63,10 +77,12 @@ fn main() -> io::Result<()> {
             eprintln!("STOP {e}");
             std::process::exit(1);
         }
+    } else if command == "pcm" {
+        pcm(&input, out)?;
     } else if let Some(text) = on_slot(&command, &input) {
         out.write_all(text.as_bytes())?;
     } else {
-        eprintln!("usage: oracle key|raw|read|decode|chan1|chan2|past|load|serve");
+        eprintln!("usage: oracle key|raw|read|decode|chan1|chan2|past|pcm CHANNEL|load|serve");
         std::process::exit(2);
     }
     Ok(())

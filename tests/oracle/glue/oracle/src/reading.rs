@@ -1,6 +1,6 @@
 // HpsReader, ChannelReader and CueIterator on a slot, as text.
 use crate::answers::{context, hex, list, refusal};
-use std::io::{self, Cursor, ErrorKind, Read, Seek, SeekFrom};
+use std::io::{self, Cursor, ErrorKind, Read, Seek, SeekFrom, Write};
 use std::sync::Arc;
 use std::sync::atomic::{AtomicU64, Ordering::Relaxed};
 use unplug::audio::cue::CueKind;
@@ -83,7 +83,7 @@ pub fn key(slot: &[u8], limited: bool) -> String {
 }
 
 /// The channels, then for each channel the addresses remaining, the context in the block's header and
-/// the block read at every position up to the end; with `decode` also the samples of ADPCM channels.
+/// the block read at every position up to the end; with `decode` also what decode.rs makes of them.
 pub fn read(slot: &[u8], decode: bool) -> String {
     let hps = match open(slot, true) {
         Ok(hps) => hps,
@@ -121,7 +121,7 @@ pub fn read(slot: &[u8], decode: bool) -> String {
                 }
             }
         }
-        if decode && hps.channel_header(c).address.format == DspFormat::Adpcm {
+        if decode {
             text += &decoded(&hps, c);
         }
     }
@@ -156,24 +156,39 @@ fn shown(block: Samples<'static, AnyFormat>) -> String {
     }
 }
 
+/// What Decoder gives at every position up to the end, and its context afterwards. An error moves it on too.
 fn decoded(hps: &HpsReader, channel: usize) -> String {
     let mut text = String::new();
     let mut decoder = Decoder::new(hps.channel_reader(channel).cast());
     for position in 0.. {
-        match decoder.read_samples() {
-            Ok(Some(block)) => {
-                text += &format!(
-                    "PCM {channel} {position} len={} after={} data={}\n",
-                    block.len,
-                    context(&decoder.context()),
-                    list(block.data.iter())
-                )
+        let given = decoder.read_samples();
+        let after = context(&decoder.context());
+        text += &format!("PCM {channel} {position} after={after} ");
+        match given {
+            Ok(Some(block)) => text += &format!("len={} data={}\n", block.len, list(block.data.iter())),
+            Err(e) => text += &format!("STOP {}\n", refusal(&e)),
+            Ok(None) => {
+                text += "DONE\n";
+                break;
             }
-            Err(e) => text += &format!("PCM {channel} {position} STOP {}\n", refusal(&e)),
-            Ok(None) => break,
         }
     }
     text
+}
+
+/// Writes a channel's samples, decoded block by block, as 16-bit little-endian numbers: one write for each block.
+pub fn pcm(slot: &[u8], channel: usize, mut out: impl Write) -> Result<()> {
+    let hps = open(slot, true)?;
+    let mut decoder = Decoder::new(hps.channel_reader(channel).cast());
+    let mut bytes = vec![];
+    while let Some(block) = decoder.read_samples()? {
+        bytes.resize(2 * block.data.len(), 0);
+        for (place, sample) in bytes.chunks_exact_mut(2).zip(block.data.iter()) {
+            place.copy_from_slice(&sample.to_le_bytes());
+        }
+        out.write_all(&bytes)?;
+    }
+    Ok(())
 }
 
 /// channel_reader with this index, and no read.

@@ -6,6 +6,9 @@ use mathlib.Core.List.{List}
 use native.Mathlib.Omega.{arith}
 use lib.ListN.{length}
 use lib.IntN.{ℤ}
+use lib.Dec.{leb}
+use Rattle.layout.proofs.Cases.{by-cases}
+use Rattle.layout.specs.declared.DspFormat.{DspFormat}
 use borrow.Author.Tests.{lt-leb, le-leb}
 use Rattle.layout.specs.Records.{Read, adpcmSamples}
 use Rattle.layout.specs.declared.FrameContext.{FrameContext}
@@ -18,20 +21,50 @@ use Rattle.adpcm_block.proofs.IntoLaws.{ContextGiven, context-given, refusal-gi
 use Rattle.reader_decode.specs.declared.Decoder.{Decoder}
 use Rattle.reader_decode.specs.declared.DecodeReply.{DecodeReply}
 use Rattle.reader_decode.specs.declared.DecodeCall.{DecodeCall}
-use Rattle.reader_decode.specs.Decoding.{decoderAt, DecodeAnswer, notAdpcm, onDecoded, onBlock, decoding, decodeCall, samplesAfter}
+use Rattle.reader_decode.specs.Decoding.{decoderAt, DecodeAnswer, notAdpcm, dueEarly, onDecoded, onBlock, decoding, decodeCall, samplesAfter}
+
+number : {m n : ℕ} → BlockReply.Refused n ≡ BlockReply.Refused m → m ≡ n
+number e = cc
+
+apart-end : {n : ℕ} → BlockReply.Refused n ≡ BlockReply.End → ⊥
+apart-end e = let z : _≡_ {A = ℕ} 0 1 = cc in omega arith
+
+apart-block : {n : ℕ} → BlockReply.Refused n ≡ BlockReply.Block → ⊥
+apart-block e = let z : _≡_ {A = ℕ} 0 1 = cc in omega arith
+
+apart-both : BlockReply.End ≡ BlockReply.Block → ⊥
+apart-both e = let z : _≡_ {A = ℕ} 0 1 = cc in omega arith
 
 module _ (s : List ℕ) (r : HpsReader) (ch i places : ℕ) where
   pub no-channel : r .count ≤ ch → decoding s r ch i places ≡ DecodeAnswer.refused 6
   unfolding decoding
   no-channel h = rw (le-leb (r .count) ch h)
 
-  pub other-format : ch < r .count → notAdpcm (channelIn r ch .format) ≡ true → decoding s r ch i places ≡ DecodeAnswer.refused 30
-  unfolding decoding
-  other-format h e = rw (lt-leb (r .count) ch h, e)
-
   pub by-block : ch < r .count → notAdpcm (channelIn r ch .format) ≡ false → decoding s r ch i places ≡ onBlock (blockRead s r ch i) places
   unfolding decoding
   by-block h e = rw (lt-leb (r .count) ch h, e)
+
+  -- by what is due early
+  module _ (f : DspFormat) (ef : channelIn r ch .format ≡ f) where
+    pub early-refused : {n : ℕ} → BlockReply.Refused n ≡ dueEarly (r .count) ch f (r .blocks) i → decoding s r ch i places ≡ DecodeAnswer.refused n
+    unfolding decoding blockRead onBlock
+    early-refused {n} e =
+        by-cases (leb (r .count) ch) (λ t. let k = rw t at e in rw t (ap DecodeAnswer.refused (number k)))
+        (λ t. by-cases (notAdpcm f) (λ u. let k = rw (t, u) at e in rw t (rw ef (rw u (ap DecodeAnswer.refused (number k)))))
+        (λ u. by-cases (leb (r .blocks) i) (λ v. absurd (apart-end (rw (t, u, v) at e))) (λ v. absurd (apart-block (rw (t, u, v) at e)))))
+
+    pub early-ended : BlockReply.End ≡ dueEarly (r .count) ch f (r .blocks) i → decoding s r ch i places ≡ DecodeAnswer.ended
+    unfolding decoding blockRead onBlock
+    early-ended e =
+        by-cases (leb (r .count) ch) (λ t. absurd (apart-end (sym (rw t at e))))
+        (λ t. by-cases (notAdpcm f) (λ u. absurd (apart-end (sym (rw (t, u) at e))))
+        (λ u. by-cases (leb (r .blocks) i) (λ v. rw t (rw ef (rw u (rw v)))) (λ v. absurd (apart-both (rw (t, u, v) at e)))))
+
+    pub early-block : BlockReply.Block ≡ dueEarly (r .count) ch f (r .blocks) i → decoding s r ch i places ≡ onBlock (blockRead s r ch i) places
+    unfolding decoding
+    early-block e =
+        by-cases (leb (r .count) ch) (λ t. absurd (apart-block (sym (rw t at e))))
+        (λ t. by-cases (notAdpcm f) (λ u. absurd (apart-block (sym (rw (t, u) at e)))) (λ u. rw t (rw ef (rw u))))
 
 -- what block read's reply says of the answer
 pub block-refused : (a : BlockAnswer) (i places : ℕ) {n : ℕ} → blockCall i a .reply ≡ BlockReply.Refused n → onBlock a places ≡ DecodeAnswer.refused n
@@ -61,8 +94,11 @@ module _ {a : DecodeAnswer} (d : Decoder) (lent : List ℤ) where
   pub call-refused : {q : DecodeCall} {n : ℕ} → q ≡ decodeCall d (DecodeAnswer.refused n) → a ≡ DecodeAnswer.refused n → (q ≡ decodeCall d a) × (lent ≡ samplesAfter lent a)
   call-refused e f = rw f (e, refl)
 
-  pub call-ended : a ≡ DecodeAnswer.ended → (record { reply = DecodeReply.End; decoder = d } ≡ decodeCall d a) × (lent ≡ samplesAfter lent a)
-  call-ended f = rw f (refl, refl)
+  pub call-ended : {q : DecodeCall} → q ≡ decodeCall d DecodeAnswer.ended → a ≡ DecodeAnswer.ended → (q ≡ decodeCall d a) × (lent ≡ samplesAfter lent a)
+  call-ended e f = rw f (e, refl)
+
+  pub call-there : {b : DecodeAnswer} {q : DecodeCall} {now : List ℤ} → (q ≡ decodeCall d b) × (now ≡ samplesAfter lent b) → a ≡ b → (q ≡ decodeCall d a) × (now ≡ samplesAfter lent a)
+  call-there e f = rw f e
 
   pub call-undecoded : (x : Read Decoded) (j : ℕ) {q : DecodeCall} {k : ℕ} {now : List ℤ} → q ≡ decodeCall d (DecodeAnswer.refused k) → a ≡ onDecoded x j
       → Read.refused k ≡ contextRead x → now ≡ lentAfter x lent → (q ≡ decodeCall d a) × (now ≡ samplesAfter lent a)

@@ -12,6 +12,7 @@ use Rattle.layout.specs.declared.DspFormat.{DspFormat}
 use Rattle.layout.specs.declared.DspFormat.the-variants.{Adpcm, Pcm16, Pcm8}
 use Rattle.reader.specs.OpeningAndReading.{BlockAnswer, channelIn, blockRead}
 use Rattle.reader.specs.declared.HpsReader.{HpsReader}
+use Rattle.reader_block.specs.declared.BlockReply.{BlockReply}
 use Rattle.adpcm_block.specs.Block.{Decoded, decodedInto, filledWith}
 use Rattle.reader_decode.specs.declared.Decoder.{Decoder}
 use Rattle.reader_decode.specs.declared.DecodeReply.{DecodeReply}
@@ -57,6 +58,13 @@ decoding s r ch i places =
     (onBlock (blockRead s r ch i) places))
 
 -- ---- What the call returns
+
+-- What is due before a block is read.
+abbrev pub dueEarly : (count channel : ℕ) → DspFormat → (blocks position : ℕ) → BlockReply
+dueEarly count ch f blocks i =
+    pick (leb count ch) (BlockReply.Refused 6)
+    (pick (notAdpcm f) (BlockReply.Refused 30)
+    (pick (leb blocks i) BlockReply.End BlockReply.Block))
 
 -- "tells how many places it filled"
 abbrev pub replyOf : DecodeAnswer → DecodeReply

@@ -40,7 +40,7 @@ add-ps : tie.Need-add-ps Inv-loop μ-loop
 add-ps c = let h = inside (c .before .before .before .before .before) in omega (arith, h .1)
 
 shared-slice-read-ps : tie.Need-shared-slice-read-ps Inv-loop μ-loop
-shared-slice-read-ps c = inside (c .before .before .before .before .before .before) .1
+shared-slice-read-ps c = let h = inside (c .before .before .before .before .before .before) in omega (arith, h .1)
 
 cast-ps : tie.Need-cast-ps Inv-loop μ-loop
 cast-ps c = omega (arith, c .shared-slice-known2 .given (c .before .before .before .before .before .before .before .loop .first + 8))

@@ -3,14 +3,25 @@ use Prim.Native.Nat.{ℕ, zero, suc, _+_, _-_, _*_, _/_, _%_, _≤_, _<_}
 use mathlib.Core.Path.{_≡_, refl, sym, ap, _∙_}
 use mathlib.Core.List.{List, [], _∷_, _++_, append-assoc}
 use native.Mathlib.Omega.{arith}
-use lib.ListN.{length, getD, take, drop, length-take, length-drop, length-append, take-append-drop}
+use lib.ListN.{List·getD-eq-default, length, getD, take, drop, length-take, length-drop, length-append, take-append-drop}
 use lib.Seq.{take-all, take-take, take-at, drop-at, drop-drop, getD-drop, length-take-le}
 use lib.IntN.{ℤ}
+use borrow.Author.Tests.{eq-eqb, ne-eqb}
 use Rattle.layout.specs.Records.{adpcmBytes, adpcmSamples}
 use Rattle.layout.specs.declared.FrameContext.{FrameContext}
-use Rattle.adpcm_block.specs.Block.{Decoded, contextWith, halves, pairDecoded, frameHalves, frameDecoded, withHeader, framesDecoded, blockDecoded}
+use Rattle.adpcm_block.specs.Block.{Decoded, contextWith, halves, headerAt, pairDecoded, frameHalves, frameDecoded, withHeader, framesDecoded, blockDecoded}
 use Rattle.adpcm_block.proofs.HalfLaws.{length-halves, counted-halves}
 use Rattle.adpcm_block.proofs.CountLaws.{pair-count, samples-last, samples-more, block-count}
+
+-- a frame's header, of the first and of the later ones
+pub header-first : (bs : List ℕ) (first ps : ℕ) → first ≡ 0 → ps ≡ headerAt bs first ps
+header-first bs first ps e = rw (eq-eqb first 0 e)
+
+pub header-later : (bs : List ℕ) (first ps : ℕ) → (first ≡ 0 → ⊥) → getD bs first 0 ≡ headerAt bs first ps
+header-later bs first ps e = rw (ne-eqb first 0 e)
+
+pub header-none : (bs : List ℕ) (first ps : ℕ) → (first ≡ 0 → ⊥) → length bs ≤ first → 0 ≡ headerAt bs first ps
+header-none bs first ps e h = sym (List·getD-eq-default bs 0 {n = first} h) ∙ header-later bs first ps e
 
 -- the half bytes of a frame that starts at a place of the data, before others
 pub whole-frame : (bs : List ℕ) (first n : ℕ) → 16 < n → frameHalves n (drop first bs) ≡ take 14 (halves (drop (first + 1) bs))

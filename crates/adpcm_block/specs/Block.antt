@@ -2,7 +2,7 @@
 use Prim.Native.Nat.{ℕ, zero, suc, _+_, _-_, _*_, _/_, _%_}
 use mathlib.Core.List.{List, [], _∷_, _++_}
 use lib.ListN.{length, getD, take, drop}
-use lib.Dec.{ltb}
+use lib.Dec.{ltb, eqb}
 use lib.IntN.{ℤ, pos}
 use Rattle.layout.specs.Choice.{pick}
 use Rattle.layout.specs.Records.{Read, field, on, adpcmBytes, adpcmSamples}
@@ -56,6 +56,10 @@ frameDecoded cs c n bytes = pairDecoded cs c (frameHalves n bytes)
 -- "a header byte": the next frame's, 8 bytes on, as predictor and scale
 abbrev pub withHeader : FrameContext → List ℕ → FrameContext
 withHeader c bytes = contextWith (getD bytes 8 0) (c .last) (c .oldest)
+
+-- The predictor and scale of the frame that starts at a place of the data: "the first frame goes by the block's context"
+abbrev pub headerAt : List ℕ → (first ps : ℕ) → ℕ
+headerAt bytes first ps = pick (eqb first 0) ps (getD bytes first 0)
 
 -- What is decoded after the context that a part leaves, behind that part.
 abbrev pub follow : Decoded → (FrameContext → Decoded) → Decoded

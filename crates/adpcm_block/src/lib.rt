@@ -10,7 +10,7 @@ ghost use mathlib.Core.List.{_++_};
 ghost use lib.ListN.{length, getD, take, drop};
 ghost use Rattle.layout.specs.Answers.{contextSays};
 ghost use Rattle.layout.specs.Records.{adpcmBytes, adpcmSamples};
-ghost use Rattle.adpcm_block.specs.Block.{halves, contextWith, halvesDecoded, pairDecoded, blockDecoded, decodedInto, contextRead, lentAfter};
+ghost use Rattle.adpcm_block.specs.Block.{halves, headerAt, contextWith, halvesDecoded, pairDecoded, blockDecoded, decodedInto, contextRead, lentAfter};
 
 // The half byte of this number from a place of the data on, the high half of a byte first.
 fn half_at(block: &[u8], from: usize, i: usize) -> u8
@@ -97,6 +97,19 @@ fn halves_in(addresses: usize) -> usize
     if addresses < 2 { 0 } else { addresses - 2 }
 }
 
+// Predictor and scale of a frame: its header byte, 0 where there is none; of the first frame those of the block's context, and its header byte is passed over.
+fn header_at(block: &[u8], first: usize, ps: u16) -> u16
+    ensures { λ r. ⌜ r ≡ headerAt (now (block .entry)) first ps ⌝ }
+{
+    if first == 0 {
+        return ps;
+    }
+    if first < block.len() {
+        return block[first] as u16;
+    }
+    0
+}
+
 // The frames of n addresses, one after the other.
 fn decode_frames(
     block: &[u8],
@@ -112,7 +125,6 @@ fn decode_frames(
     ensures { λ _. ⌜ now (samples .exit)
         ≡ blockDecoded (now (coefficients .entry)) (contextWith ps0 last0 oldest0) n (now (block .entry)) .samples ++ drop (adpcmSamples n) (now (samples .entry)) ⌝ }
 {
-    let mut ps = ps0;
     let mut last = last0;
     let mut oldest = oldest0;
     let mut left = n;
@@ -120,6 +132,7 @@ fn decode_frames(
     let mut first: usize = 0;
     let mut at: usize = 0;
     while 16 < left {
+        let ps = header_at(block, first, ps0);
         let after = decode_frame(
             block,
             first + 1,
@@ -133,11 +146,11 @@ fn decode_frames(
         );
         last = after.last;
         oldest = after.oldest;
-        ps = block[first + 8] as u16;
         first += 8;
         at += 14;
         left -= 16;
     }
+    let ps = header_at(block, first, ps0);
     decode_frame(
         block,
         first + 1,

@@ -1,5 +1,6 @@
 -- Hearing the block (document 02, Card 1): a frame and a block of ADPCM data decoded to samples, as decode.rs does it.
-use Prim.Native.Nat.{ℕ, zero, suc, _+_, _-_, _*_, _/_, _%_}
+use Prim.Native.Nat.{ℕ, zero, suc, _+_, _-_, _*_, _/_, _%_, _≤_}
+use mathlib.Core.Path.{_≡_}
 use mathlib.Core.List.{List, [], _∷_, _++_}
 use lib.ListN.{length, getD, take, drop}
 use lib.Dec.{ltb, eqb}
@@ -92,3 +93,8 @@ filledWith xs lent = xs ++ drop (length xs) lent
 -- The lent places afterwards; where it is refused, as they were.
 abbrev pub lentAfter : Read Decoded → (lent : List ℤ) → List ℤ
 lentAfter d lent = on d (λ n. lent) (λ x. filledWith (x .samples) lent)
+
+-- "The number of samples equals document 01's count for the block's length.": for every length whose data is there
+unfoldable pub SamplesCounted : Type 0
+SamplesCounted =
+    (coefficients : List ℤ) (c : FrameContext) (n : ℕ) (bytes : List ℕ) → adpcmBytes n ≤ length bytes → length (blockDecoded coefficients c n bytes .samples) ≡ adpcmSamples n

@@ -10,7 +10,8 @@ ghost use mathlib.Core.List.{_++_};
 ghost use lib.ListN.{length, getD, take, drop};
 ghost use Rattle.layout.specs.Answers.{contextSays};
 ghost use Rattle.layout.specs.Records.{adpcmBytes, adpcmSamples};
-ghost use Rattle.adpcm_block.specs.Block.{halves, headerAt, contextWith, halvesDecoded, pairDecoded, blockDecoded, decodedInto, contextRead, lentAfter};
+ghost use Rattle.adpcm_block.specs.Cases.{DecodedCases};
+ghost use Rattle.adpcm_block.specs.Block.{halves, headerAt, contextWith, halvesDecoded, pairDecoded, blockDecoded, decodedInto, contextRead, lentAfter, SamplesCounted};
 
 // The half byte of this number from a place of the data on, the high half of a byte first.
 fn half_at(block: &[u8], from: usize, i: usize) -> u8
@@ -191,3 +192,13 @@ pub fn decode_block(
     let after = decode_frames(block, n, coefficients, ps, last, oldest, samples);
     ContextRead::Value(after)
 }
+
+// A block has as many samples as document 01 counts for its length.
+pub fn samples_counted()
+    ensures { λ _. ⌜ SamplesCounted ⌝ }
+{}
+
+// The cases that tell the readings of the card apart, computed.
+pub fn decoded_cases()
+    ensures { λ _. ⌜ DecodedCases ⌝ }
+{}

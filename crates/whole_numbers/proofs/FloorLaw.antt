@@ -5,19 +5,14 @@ use native.Mathlib.Nat.{div-add-mod', mod-lt, suc-mul}
 use native.Mathlib.Omega.{arith}
 use borrow.Author.Tests.{lt-ltb}
 use lib.IntN.{ℤ, pos, negsuc, negℤ, _+ℤ_, _*ℤ_}
-use Rattle.whole_numbers.specs.Whole.{floorDiv}
-
-pub record Floor (z : ℤ) (m : ℕ) : Type 0 where
-  pub rest : ℕ
-  pub below : rest < m
-  pub whole : z ≡ floorDiv z m *ℤ pos m +ℤ pos rest
+use Rattle.whole_numbers.specs.Whole.{floorDiv, QuotientDown}
 
 -- -p + r, where p is above r
 minus : (p r n : ℕ) → n + suc r ≡ p → negsuc n ≡ negℤ (pos p) +ℤ pos r
 minus zero r n e = absurd (omega arith)
 minus (suc p) r n e = rw (lt-ltb r (suc p) (omega arith)) (ap negsuc (omega arith))
 
-pub floor-law : (z : ℤ) (m : ℕ) → 0 < m → Floor z m
+pub floor-law : (z : ℤ) (m : ℕ) → 0 < m → QuotientDown z m (floorDiv z m)
 unfolding floorDiv
 floor-law (pos n) m h = record { rest = n % m; below = mod-lt n h; whole = ap pos (sym (div-add-mod' n m)) }
 floor-law (negsuc n) m h =

@@ -1,7 +1,7 @@
 // Whole numbers that fit 16 bits: their product, and a number brought into them. Every argument is taken, and nothing wraps.
 ghost use mathlib.Core.Path.{_≡_};
 ghost use lib.IntN.{_*ℤ_};
-ghost use Rattle.whole_numbers.specs.Whole.{clamped};
+ghost use Rattle.whole_numbers.specs.Whole.{clamped, RoundedDown};
 
 // The product of two numbers, whole.
 pub fn product(a: i16, b: i16) -> i64
@@ -20,3 +20,8 @@ pub fn clamp_i16(z: i64) -> i16
         if z > 32767 { 32767 } else { z as i16 }
     }
 }
+
+// The quotient of the definitions is the one rounded towards minus infinity.
+pub fn rounded_down()
+    ensures { λ _. ⌜ RoundedDown ⌝ }
+{}

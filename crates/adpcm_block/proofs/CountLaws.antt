@@ -1,16 +1,16 @@
 -- How many samples a block has: document 01's count, for every length.
 use Prim.Native.Nat.{ℕ, zero, suc, _+_, _-_, _*_, _/_, _%_, _≤_, _<_, min}
-use mathlib.Core.Path.{_≡_, refl, sym, ap, _∙_}
-use mathlib.Core.List.{List, _++_}
+use mathlib.Core.Path.{_≡_, refl, sym, _∙_}
+use mathlib.Core.List.{List}
 use native.Mathlib.Omega.{arith}
 use lib.Dec.{ltb}
 use Rattle.layout.proofs.Cases.{by-cases}
-use lib.ListN.{length, take, drop, length-take, length-drop, length-append}
+use lib.ListN.{length, drop, length-take, length-drop, length-append}
 use lib.IntN.{ℤ}
 use borrow.Author.Tests.{ltb-true, ltb-false, lt-ltb, le-ltb}
 use Rattle.layout.specs.Records.{adpcmBytes, adpcmSamples}
 use Rattle.layout.specs.declared.FrameContext.{FrameContext}
-use Rattle.adpcm_block.specs.Block.{contextWith, halves, halvesDecoded, pairDecoded, frameHalves, frameDecoded, withHeader, framesDecoded, blockDecoded}
+use Rattle.adpcm_block.specs.Block.{pairDecoded, frameHalves, frameDecoded, withHeader, framesDecoded, blockDecoded}
 use Rattle.adpcm_block.proofs.HalfLaws.{length-halves, halves-count}
 
 -- the samples before an address, as 14 of each whole frame
@@ -35,6 +35,13 @@ samples-more n h =
     by-cases (ltb (n % 16) 2)
     (λ t. let k = ltb-true (n % 16) 2 t in let e : (n - 16) % 16 < 2 = omega arith in omega (arith, samples-head n k, samples-head (n - 16) e))
     (λ t. let k = ltb-false (n % 16) 2 t in let e : 2 ≤ (n - 16) % 16 = omega arith in omega (arith, samples-inside n k, samples-inside (n - 16) e))
+
+-- no more than those of so many whole frames
+pub samples-most : (n m : ℕ) → n ≤ 16 * m → adpcmSamples n ≤ 14 * m
+samples-most n m h =
+    by-cases (ltb (n % 16) 2)
+    (λ t. let k = ltb-true (n % 16) 2 t in omega (arith, samples-head n k))
+    (λ t. let k = ltb-false (n % 16) 2 t in omega (arith, samples-inside n k))
 
 -- the half bytes of a frame
 pub frame-count : (n : ℕ) (bytes : List ℕ) → length (frameHalves n bytes) ≡ min (n - 2) (min 14 (2 * (length bytes - 1)))

@@ -1,17 +1,17 @@
 -- The loop over a block's frames: what was put and what is still to come are the whole, and the other places stand as they were.
-use Prim.Native.Nat.{ℕ, zero, suc, _+_, _-_, _*_, _/_, _%_, _≤_, _<_}
+use Prim.Native.Nat.{ℕ, suc, _+_, _-_, _*_, _/_, _≤_, _<_}
 use mathlib.Core.Path.{_≡_, refl, sym, ap, _∙_}
-use mathlib.Core.List.{List, [], _∷_, _++_, append-assoc}
+use mathlib.Core.List.{List, _++_, append-assoc}
 use native.Mathlib.Omega.{arith}
-use lib.ListN.{List·getD-eq-default, length, getD, take, drop, length-take, length-drop, length-append, take-append-drop}
+use lib.ListN.{List·getD-eq-default, length, getD, take, drop, length-take, length-drop, length-append}
 use lib.Seq.{take-all, take-take, take-at, drop-at, drop-drop, getD-drop, length-take-le}
 use lib.IntN.{ℤ}
 use borrow.Author.Tests.{eq-eqb, ne-eqb}
 use Rattle.layout.specs.Records.{adpcmBytes, adpcmSamples}
 use Rattle.layout.specs.declared.FrameContext.{FrameContext}
-use Rattle.adpcm_block.specs.Block.{Decoded, contextWith, halves, headerAt, pairDecoded, frameHalves, frameDecoded, withHeader, framesDecoded, blockDecoded}
-use Rattle.adpcm_block.proofs.HalfLaws.{length-halves, counted-halves}
-use Rattle.adpcm_block.proofs.CountLaws.{pair-count, samples-last, samples-more, block-count}
+use Rattle.adpcm_block.specs.Block.{Decoded, contextWith, halves, headerAt, pairDecoded, frameHalves, framesDecoded, blockDecoded}
+use Rattle.adpcm_block.proofs.HalfLaws.{counted-halves}
+use Rattle.adpcm_block.proofs.CountLaws.{pair-count, samples-last, samples-more}
 
 -- a frame's header, of the first and of the later ones
 pub header-first : (bs : List ℕ) (first ps : ℕ) → first ≡ 0 → ps ≡ headerAt bs first ps

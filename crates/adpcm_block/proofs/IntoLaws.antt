@@ -11,7 +11,7 @@ use Rattle.layout.specs.Records.{Read, field, adpcmBytes, adpcmSamples}
 use Rattle.layout.specs.declared.FrameContext.{FrameContext}
 use Rattle.layout.proofs.FieldLaws.{field-inside, field-past}
 use Rattle.layout.proofs.Cases.{by-cases}
-use Rattle.adpcm_block.specs.Block.{Decoded, blockDecoded, decodedInto, contextRead, filledWith, lentAfter}
+use Rattle.adpcm_block.specs.Block.{Decoded, blockDecoded, decodedInto, contextRead, lentAfter}
 use Rattle.adpcm_block.proofs.CountLaws.{block-count}
 
 module _ (places : ℕ) (cs : List ℤ) (c : FrameContext) (n : ℕ) (bs : List ℕ) where

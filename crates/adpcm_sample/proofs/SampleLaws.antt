@@ -1,6 +1,6 @@
 -- One sample: every number on the way fits 64 bits.
-use Prim.Native.Nat.{ℕ, zero, suc, _+_, _*_, _-_, _%_, _^_, _≤_, _<_}
-use mathlib.Core.Path.{_≡_, refl, sym, ap, _∙_}
+use Prim.Native.Nat.{ℕ, _*_, _%_, _^_, _≤_, _<_}
+use mathlib.Core.Path.{_≡_, ap, _∙_}
 use mathlib.Core.Bool.{Bool, true, false}
 use Rattle.layout.specs.Choice.{pick}
 use native.Mathlib.Nat.{mod-eq-of-lt, one-mul}
@@ -11,7 +11,6 @@ use lib.IntN.{ℤ, pos, negsuc, natAbs, _+ℤ_, _-ℤ_, _*ℤ_}
 use mir.Syntax.{w16, w64}
 use mir.Val.{SFits, toZ}
 use mir.ValLaws.{toZ-pos}
-use Rattle.whole_numbers.specs.Whole.{floorDiv}
 use Rattle.whole_numbers.proofs.WholeLaws.{abs-add, abs-floor, abs-product, fits64, times-bound, clamp-fits}
 use Rattle.adpcm_sample.specs.Sample.{signedHalf, predicted, scale, sample}
 

@@ -73,7 +73,7 @@ pub fn put_words(buf: &mut [u8], at: usize, a: u32, b: u32, c: u32)
 }
 
 // The bits of a signed number: of a negative one, those of the number with all bits turned over, turned over again.
-fn bits16(x: i16) -> u16
+pub fn bits16(x: i16) -> u16
     ensures { λ r. ⌜ r ≡ ofZ w16 x ⌝ }
 {
     if x < 0 {

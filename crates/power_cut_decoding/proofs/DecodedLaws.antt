@@ -1,53 +1,29 @@
 -- Decoding by what block read gives, and of a finished stream block by block.
-use Prim.{Unit, tt}
 use Prim.Native.Nat.{ℕ, zero, suc, _+_, _<_, _≤_}
 use mathlib.Core.Path.{_≡_, refl, sym, ap, _∙_}
 use mathlib.Core.List.{List, [], _∷_, _++_, append-assoc, flatMap}
 use native.Mathlib.Omega.{arith}
-use lib.ListN.{length, drop, length-append, length-drop}
-use lib.Seq.{length-take-le}
+use lib.ListN.{length, length-append}
 use lib.IntN.{ℤ}
-use lib.Dec.{leb, ltb, eqb}
-use borrow.Author.Tests.{leb-true, le-ltb}
+use lib.Dec.{ltb, eqb}
+use borrow.Author.Tests.{le-ltb}
 use Rattle.layout.specs.Choice.{pick}
 use Rattle.layout.specs.Lists.{All, more}
-use Rattle.layout.specs.Records.{field, adpcmBytes, adpcmSamples, addressToByteUp, noChannel}
+use Rattle.layout.specs.Records.{adpcmBytes, adpcmSamples, noChannel}
 use Rattle.layout.specs.declared.DspFormat.the-variants.{Adpcm}
 use Rattle.layout.specs.declared.FrameContext.{FrameContext}
 use Rattle.layout.proofs.Cases.{by-cases}
 use Rattle.layout.proofs.FieldLaws.{field-inside}
-use Rattle.reader.specs.OpeningAndReading.{BlockAnswer, channelIn, offsetIn, bytesIn, dataStart, dataPart, blockRead}
+use Rattle.reader.specs.OpeningAndReading.{BlockAnswer, channelIn, blockRead}
 use Rattle.reader.specs.declared.HpsReader.{HpsReader}
-use Rattle.reader.proofs.HeaderLaws.{header-cases}
 use Rattle.adpcm_block.specs.Block.{blockDecoded, decodedInto}
 use Rattle.reader_decode.specs.Decoding.{DecodeAnswer, onBlock, decoding, decoderAt, heard}
 use Rattle.reader_decode.proofs.DecodingLaws.{no-channel, by-block}
+use Rattle.reader_decode.proofs.ReadLaws.{read-says}
 use Rattle.writer.specs.Loading.{filled, second}
 use Rattle.power_cut.specs.LoadingBook.{Block, Book, openingOf}
 use Rattle.power_cut.specs.Consequences.{WholeList, bookOf, Finished, finishedRecord, EachBlockBack, NoBlockBack}
 use Rattle.power_cut_decoding.specs.DecodesAsPushed.{samplesIn, pushedDecoded, EachBlockDecoded, NoBlockDecoded, WholeChannelDecoded}
-
--- ---- What block read gives
-
--- of data that is given: it is as long as the block's length says
-abbrev Long : BlockAnswer → Type 0
-Long (BlockAnswer.refused n) = Unit
-Long (BlockAnswer.refusedAt n i) = Unit
-Long BlockAnswer.ended = Unit
-Long (BlockAnswer.gave rate f cs gain n c start bytes i) = length bytes ≡ addressToByteUp f n
-
-read-long : (s : List ℕ) (r : HpsReader) (ch i : ℕ) → Long (blockRead s r ch i)
-unfolding blockRead dataPart field
-read-long s r ch i =
-    by-cases (leb (r .count) ch) (λ t. rw t tt)
-    (λ t. by-cases (leb (r .blocks) i) (λ u. rw t (rw u tt))
-    (λ u. header-cases s (offsetIn r i) (λ v. rw t (rw u (rw v tt)))
-    (λ h v.
-    let n = bytesIn r h ch in
-    let start = dataStart (offsetIn r i) h ch n in
-    by-cases (leb (start + n) (length s))
-    (λ w. let inside = leb-true (start + n) (length s) w in rw t (rw u (rw v (rw w (length-take-le n (drop start s) (omega (arith, length-drop start s)))))))
-    (λ w. rw t (rw u (rw v (rw w tt)))))))
 
 -- ---- Decoding
 
@@ -65,7 +41,7 @@ module _ (s : List ℕ) (r : HpsReader) (ch i places : ℕ) where
         → decoding s r ch i places ≡ pick (ltb places (adpcmSamples n)) (DecodeAnswer.refused 14) (DecodeAnswer.gave (blockDecoded cs c n bytes) j)
     unfolding onBlock decodedInto
     decoding-gave {n = n} {cs = cs} {c = c} {bytes = bytes} e =
-        let long : length bytes ≡ adpcmBytes n = rw e at (read-long s r ch i) in
+        let long : length bytes ≡ adpcmBytes n = (rw e at (read-says s r ch i)) .long in
         decoding-is ∙ rw e (rw (field-inside bytes (adpcmBytes n) (blockDecoded cs c n bytes) (omega arith))
         (by-cases (ltb places (adpcmSamples n)) (λ t. rw t) (λ t. rw t)))
 

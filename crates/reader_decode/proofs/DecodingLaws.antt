@@ -1,7 +1,7 @@
 -- The decoding call by its cases: no such channel, another format, and what block read gives.
 use Prim.Native.Nat.{ℕ, _≤_, _<_}
-use mathlib.Core.Path.{_≡_, refl, sym, ap, _∙_}
-use mathlib.Core.Bool.{true, false}
+use mathlib.Core.Path.{_≡_, refl, sym, ap}
+use mathlib.Core.Bool.{false}
 use mathlib.Core.List.{List}
 use native.Mathlib.Omega.{arith}
 use lib.ListN.{length}
@@ -16,8 +16,8 @@ use Rattle.reader.specs.OpeningAndReading.{BlockAnswer, channelIn, blockRead}
 use Rattle.reader.specs.declared.HpsReader.{HpsReader}
 use Rattle.reader_block.specs.BlockAnswers.{blockCall, blockData}
 use Rattle.reader_block.specs.declared.BlockReply.{BlockReply}
-use Rattle.adpcm_block.specs.Block.{Decoded, decodedInto, contextRead, lentAfter, filledWith}
-use Rattle.adpcm_block.proofs.IntoLaws.{ContextGiven, context-given, refusal-given}
+use Rattle.adpcm_block.specs.Block.{Decoded, decodedInto, contextRead, lentAfter}
+use Rattle.adpcm_block.proofs.IntoLaws.{ContextGiven, refusal-given}
 use Rattle.reader_decode.specs.declared.Decoder.{Decoder}
 use Rattle.reader_decode.specs.declared.DecodeReply.{DecodeReply}
 use Rattle.reader_decode.specs.declared.DecodeCall.{DecodeCall}

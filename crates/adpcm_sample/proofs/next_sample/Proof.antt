@@ -1,11 +1,10 @@
 use Prim.Native.Nat.{_<_}
 use native.Mathlib.Omega.{arith}
-use mathlib.Core.Path.{_≡_, ap, _∙_}
-use lib.IntN.{pos}
+use mathlib.Core.Path.{_≡_}
 use mir.Facts.{toZ-ofZ}
 use borrow.Author.Needs.{needs}
 use Rattle.whole_numbers.proofs.WholeLaws.{clamp-fits}
-use Rattle.adpcm_sample.specs.Sample.{signedHalf, predicted, sample}
+use Rattle.adpcm_sample.specs.Sample.{predicted, sample}
 use Rattle.adpcm_sample.proofs.SampleLaws.{predicted-fits, half-fits, scale-fits, scaled-fits, whole-fits}
 use Rattle.adpcm_sample.proofs.next_sample.Statement.{statement}
 use Rattle.adpcm_sample.proofs.next_sample.Tie as tie

@@ -4,7 +4,7 @@ use mir.Facts.{toZ-ofZ}
 use borrow.Author.Needs.{needs}
 use Rattle.whole_numbers.proofs.WholeLaws.{shr-floor, times-fits, floor-fits}
 use Rattle.adpcm_sample.specs.Sample.{predicted}
-use Rattle.adpcm_sample.proofs.SampleLaws.{two-fits, sum-fits, predicted-fits}
+use Rattle.adpcm_sample.proofs.SampleLaws.{two-fits, sum-fits}
 use Rattle.adpcm_sample.proofs.prediction.Statement.{statement}
 use Rattle.adpcm_sample.proofs.prediction.Tie as tie
 

@@ -1,8 +1,4 @@
-use mathlib.Core.Path.{_≡_, ap, _∙_}
-use mathlib.Core.Bool.{false}
-use lib.IntN.{ℤ, pos, negsuc}
-use lib.Signed.{ltZ}
-use mir.Syntax.{w16, w64}
+use mir.Syntax.{w16}
 use mir.Val.{SFits}
 use mir.Facts.{toZ-ofZ}
 use Rattle.whole_numbers.proofs.WholeLaws.{clamped-low, clamped-high, clamped-same, unclamped-fits}

@@ -81,6 +81,19 @@ def listed():
         yield slot_of((number, ADPCM), ((0,) * 16,) * 2, [(16, (zeros, (0x21, LOW, HIGH)), bytes(range(40, 80))), (200, (zeros,) * 2, bytes(9))], count=2)
 
 
+def walk_in():
+    """A stereo slot to listen to: a note in each channel, which the first pair of coefficients lets ring and fade, then noise by every pair and by scales up to
+    128, then the notes again, in a block that ends within a frame."""
+    random.seed("walk-in")
+    others = [1800, 200, 3000, -1000, 2500, -600, 1000, 500, 3900, -1900, -1500, 300, 0, 0]
+    coefficients = [4081, -2044] + others, [4062, -2044] + others
+    notes = [(length, ((0, 700, 0), (0, 900, 0)), bytes(2 * up(bytes_for(length)))) for length in (4096, 1001)]
+    noise = bytearray(random.randbytes(2 * up(bytes_for(640))))
+    for at in range(0, len(noise), 8):
+        noise[at] = random.randrange(8) * 16 + random.randrange(8)
+    return slot_of((ADPCM, ADPCM), coefficients, [notes[0], (640, ((0x13, 0, 0), (0x25, 40, -40)), bytes(noise)), notes[1]], count=2)
+
+
 # ---- Generated
 
 def some_number(low):

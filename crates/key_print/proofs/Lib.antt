@@ -1,1 +1,2 @@
 pub mod PortionLaws
+pub mod StopLaws

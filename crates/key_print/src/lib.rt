@@ -1,6 +1,7 @@
-// Listings, printed.
+// Listings and the lines of refusals, printed.
 use io::large_buffer;
 use io::write_all;
+use key_lines::put_stop;
 use key_listing::Stage;
 use key_listing::listing::fill;
 use key_listing::start::start_listing;
@@ -13,6 +14,7 @@ ghost use lib.ListN.{length, take, drop, replicate};
 ghost use Rattle.layout.specs.Lists.{same};
 ghost use Rattle.reader.specs.OpeningAndReading.{Readable};
 ghost use Rattle.reader.specs.declared.HpsReader.{HpsReader};
+ghost use Rattle.key_lines.specs.Lines.{stopLine};
 ghost use Rattle.key_listing.specs.MarkingKey.{listing, listingFrom};
 ghost use Rattle.key_print.specs.Portions.{PrintedOf, Held, MoreIs, Common};
 
@@ -64,6 +66,26 @@ pub fn print_listing(fd: i32, s: &[u8]) -> Printed
         }
         stage = filled.stage;
     }
+}
+
+// The size of a refusal's line: its word, a column, the newline.
+const STOP_SIZE: usize = 4 + 11 + 1;
+
+// What is handed to the system is a refusal's line: the number is there for the premise alone.
+fn write_stop(fd: i32, number: u32, bytes: &[u8])
+    requires { ⌜ now bytes ≡ stopLine number ⌝ }
+{
+    write_all(fd, bytes);
+}
+
+// Prints the line of a refusal; how many bytes the system was handed.
+pub fn print_stop(fd: i32, number: u32) -> usize
+    ensures { λ n. ⌜ n ≡ length (stopLine number) ⌝ }
+{
+    let mut line = [0u8; STOP_SIZE];
+    let n = put_stop(&mut line, 0, number);
+    write_stop(fd, number, &line[..n]);
+    n
 }
 
 // A portion of a listing in a buffer, from `at` to `end`, and the stage after it.

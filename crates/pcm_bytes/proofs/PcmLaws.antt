@@ -1,11 +1,11 @@
 -- Samples put as bytes, one after the other: the bytes of those that were put, and the other bytes as they were.
-use Prim.Native.Nat.{ℕ, suc, _+_, _*_, _/_, _%_, _<_}
+use Prim.Native.Nat.{ℕ, suc, _+_, _*_, _/_, _%_, _≤_, _<_}
 use mathlib.Core.Path.{_≡_, refl, sym, ap, _∙_}
 use mathlib.Core.List.{List, [], _∷_, _++_, append-assoc}
 use native.Mathlib.Omega.{arith}
 use native.Mathlib.Numerals.{add-one}
 use lib.ListN.{length, getD, take, drop, set, length-set, take-append-drop}
-use lib.Seq.{take-suc, take-suc-set, drop-set-lt, drop-drop}
+use lib.Seq.{take-at, length-take-le, take-suc, take-suc-set, drop-set-lt, drop-drop}
 use lib.IntN.{ℤ, pos}
 use mir.Syntax.{w16}
 use mir.Val.{ofZ}
@@ -58,3 +58,7 @@ module _ {samples : List ℤ} {before after : List ℕ} {i : ℕ} (p : PcmPut sa
 
   pub put-all : after ≡ pcmBytes (take i samples) ++ drop (2 * i) before
   put-all = sym (take-append-drop (2 * i) after) ∙ ap (λ (l : List ℕ). l ++ drop (2 * i) after) (p .done) ∙ ap (λ (l : List ℕ). pcmBytes (take i samples) ++ l) (p .rest)
+
+-- the first bytes are those of the samples
+pub bytes-put : (xs : List ℤ) (n : ℕ) (rest : List ℕ) → n ≤ length xs → take (2 * n) (pcmBytes (take n xs) ++ rest) ≡ pcmBytes (take n xs)
+bytes-put xs n rest h = take-at (pcmBytes (take n xs)) rest (2 * n) (omega (arith, pcm-length (take n xs), length-take-le n xs h))

@@ -1,6 +1,6 @@
 -- An opening taken apart, and what holds of every record that it gives.
 use Prim.Native.Nat.{ℕ, zero, suc, _+_, _≤_}
-use mathlib.Core.Path.{_≡_, refl}
+use mathlib.Core.Path.{_≡_, refl, ap, sym, _∙_}
 use mathlib.Core.Bool.{Bool, true, false}
 use mathlib.Core.List.{List, [], _∷_, _++_}
 use mathlib.Core.Logic.{_⊎_, inl, inr, ⊎-elim}
@@ -16,6 +16,7 @@ use Rattle.layout.proofs.Cases.{by-cases}
 use Rattle.reader.proofs.HeaderLaws.{header-cases}
 use Rattle.reader.specs.declared.LoopStart.{LoopStart}
 use Rattle.reader.specs.declared.HpsReader.{HpsReader}
+use Rattle.reader.specs.declared.answers.OpenReply.{OpenReply}
 use Rattle.reader.specs.declared.answers.OpenCall.{OpenCall}
 use Rattle.reader.specs.OpeningAndReading.{Walked, refused, walked, firstAt, walkFrom, Opened, onWalk, made, opening, Readable}
 use Rattle.reader.specs.ReaderAnswers.{openCall}
@@ -132,3 +133,21 @@ readable-of (Opened.opened r) f = f r refl
 -- the answer is that of the definition, so its record is readable
 pub and-readable : (s : List ℕ) (q : OpenCall) → q ≡ openCall (opening s) → (q ≡ openCall (opening s)) × Readable (q .reader)
 and-readable s q e = (e, rw e (readable-of (opening s) (opened-readable s)))
+
+-- ---- What the answer tells
+
+refused-back : (o : Opened) (n : ℕ) → openCall o .reply ≡ OpenReply.Refused n → o ≡ Opened.refused n
+refused-back (Opened.refused m) n e = let x : m ≡ n = cc in ap Opened.refused x
+refused-back (Opened.opened r) n e = absurd (let z : _≡_ {A = ℕ} 0 1 = cc in omega arith)
+
+opened-back : (o : Opened) → openCall o .reply ≡ OpenReply.Opened → o ≡ Opened.opened (openCall o .reader)
+opened-back (Opened.refused m) e = absurd (let z : _≡_ {A = ℕ} 0 1 = cc in omega arith)
+opened-back (Opened.opened r) e = refl
+
+module _ (s : List ℕ) (q : OpenCall) (e : q ≡ openCall (opening s)) where
+  pub call-refused : (n : ℕ) → q .reply ≡ OpenReply.Refused n → opening s ≡ Opened.refused n
+  call-refused n h = refused-back (opening s) n (sym (ap (λ (x : OpenCall). x .reply) e) ∙ h)
+
+  pub call-opened : q .reply ≡ OpenReply.Opened → opening s ≡ Opened.opened (q .reader)
+  call-opened h =
+      opened-back (opening s) (sym (ap (λ (x : OpenCall). x .reply) e) ∙ h) ∙ ap (λ (x : OpenCall). Opened.opened (x .reader)) (sym e)

@@ -2,7 +2,7 @@ use denote.Ref.{now}
 use Rattle.reader.specs.OpeningAndReading.{opening}
 use Rattle.hps.proofs.ExportedLaws.{no-room, no-room-kept, open-refused, open-left, open-opened, open-kept}
 use Rattle.c_opened.proofs.ReadBackLaws.{opened-long, opened-offsets}
-use Rattle.key_listing.proofs.StartLaws.{call-refused, call-opened}
+use Rattle.reader.proofs.OpenedLaws.{call-refused, call-opened}
 use Rattle.hps.proofs.reading.hps_open.Statement.{statement}
 use Rattle.hps.proofs.reading.hps_open.Tie as tie
 

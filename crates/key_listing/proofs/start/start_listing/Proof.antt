@@ -1,6 +1,7 @@
 use denote.Ref.{now}
 use borrow.Author.Needs.{needs}
-use Rattle.key_listing.proofs.StartLaws.{start-long, start-refused, start-opened, call-refused, call-opened}
+use Rattle.reader.proofs.OpenedLaws.{call-refused, call-opened}
+use Rattle.key_listing.proofs.StartLaws.{start-long, start-refused, start-opened}
 use Rattle.key_listing.proofs.start.start_listing.Statement.{statement}
 use Rattle.key_listing.proofs.start.start_listing.Tie as tie
 

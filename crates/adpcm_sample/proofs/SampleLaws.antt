@@ -1,11 +1,12 @@
 -- One sample: every number on the way fits 64 bits.
 use Prim.Native.Nat.{ℕ, _*_, _%_, _^_, _≤_, _<_}
-use mathlib.Core.Path.{_≡_, ap, _∙_}
+use mathlib.Core.Path.{_≡_, refl, ap, _∙_}
 use mathlib.Core.Bool.{Bool, true, false}
 use Rattle.layout.specs.Choice.{pick}
 use native.Mathlib.Nat.{mod-eq-of-lt, one-mul}
 use native.Mathlib.Omega.{arith}
-use lib.Dec.{ltb}
+use lib.Dec.{leb, ltb}
+use borrow.Author.Tests.{leb-true}
 use lib.Pow.{pow-mono}
 use lib.IntN.{ℤ, pos, negsuc, natAbs, _+ℤ_, _-ℤ_, _*ℤ_}
 use mir.Syntax.{w16, w64}
@@ -21,15 +22,16 @@ module _ {c0 c1 last oldest : ℤ} (f0 : SFits w16 c0) (f1 : SFits w16 c1) (fl :
   pub two-fits : SFits w64 (c0 *ℤ last +ℤ c1 *ℤ oldest)
   two-fits = fits64 _ (let h = two-bound in omega arith)
 
-  pub sum-bound : natAbs (c0 *ℤ last +ℤ c1 *ℤ oldest +ℤ pos 1024) ≤ 2147484672
-  sum-bound = let h = two-bound in omega (arith, abs-add (c0 *ℤ last +ℤ c1 *ℤ oldest) (pos 1024))
+  -- and with a small number beside them
+  pub sum-bound : (k : ℕ) → leb k 2048 ≡ true → natAbs (c0 *ℤ last +ℤ c1 *ℤ oldest +ℤ pos k) ≤ 2147485696
+  sum-bound k e = let h = two-bound in omega (arith, leb-true k 2048 e, abs-add (c0 *ℤ last +ℤ c1 *ℤ oldest) (pos k))
 
-  pub sum-fits : SFits w64 (c0 *ℤ last +ℤ c1 *ℤ oldest +ℤ pos 1024)
-  sum-fits = fits64 _ (let h = sum-bound in omega arith)
+  pub sum-fits : (k : ℕ) → leb k 2048 ≡ true → SFits w64 (c0 *ℤ last +ℤ c1 *ℤ oldest +ℤ pos k)
+  sum-fits k e = fits64 _ (let h = sum-bound k e in omega arith)
 
-  pub predicted-bound : natAbs (predicted c0 c1 last oldest) ≤ 2147484672
+  pub predicted-bound : natAbs (predicted c0 c1 last oldest) ≤ 2147485696
   unfolding predicted
-  predicted-bound = let h = sum-bound in omega (arith, abs-floor (c0 *ℤ last +ℤ c1 *ℤ oldest +ℤ pos 1024) 2048)
+  predicted-bound = let h = sum-bound 1024 refl in omega (arith, abs-floor (c0 *ℤ last +ℤ c1 *ℤ oldest +ℤ pos 1024) 2048)
 
   pub predicted-fits : SFits w64 (predicted c0 c1 last oldest)
   predicted-fits = fits64 _ (let h = predicted-bound in omega arith)

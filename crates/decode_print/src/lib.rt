@@ -33,28 +33,30 @@ struct Hearing {
     whole: bool,
 }
 
-// What is handed to the system are the bytes of n samples from `at` on: samples and numbers are there for the premise alone.
-fn write_pcm(fd: i32, samples: &[i16], at: usize, n: usize, bytes: &[u8]) -> bool
+// What is handed to the system are the bytes of n samples from `at` on: samples and place are there for the premise alone. How many it took: all or none.
+fn write_pcm(fd: i32, samples: &[i16], at: usize, n: usize, bytes: &[u8]) -> usize
     requires { ⌜ now bytes ≡ pcmBytes (take n (drop at (now samples))) ⌝ }
+    ensures { λ k. ⌜ k ≤ n ⌝ }
 {
-    write_all(fd, bytes)
+    if write_all(fd, bytes) { n } else { 0 }
 }
 
-// Samples of a channel, from one of them on; whether the system took all.
-fn print_samples(fd: i32, s: &[u8], channel: usize, from: usize, samples: &[i16]) -> bool
+// Samples of a channel, from one of them on; how many the system took.
+fn print_samples(fd: i32, s: &[u8], channel: usize, from: usize, samples: &[i16]) -> usize
     requires { ⌜ now samples ≡ take (length (now samples)) (drop from (channelSamples (now s) channel)) ⌝ }
+    ensures { λ k. ⌜ k ≤ length (now (samples .entry)) ⌝ }
 {
     let mut out = large_buffer();
     let mut at: usize = 0;
     while at < samples.len() {
         let n = put_pcm(&samples[at..], &mut out);
-        let all = write_pcm(fd, samples, at, n, &out[..2 * n]);
-        if !all {
-            return false;
+        let taken = write_pcm(fd, samples, at, n, &out[..2 * n]);
+        if taken == 0 {
+            return at;
         }
-        at += n;
+        at += taken;
     }
-    true
+    at
 }
 
 // The blocks from a decoder on, up to a call that gives no samples.
@@ -84,9 +86,9 @@ fn print_blocks(
             };
         };
         let next = call.decoder;
-        let all = print_samples(fd, s, channel, length, &samples[..n]);
-        length += n;
-        if !all {
+        let taken = print_samples(fd, s, channel, length, &samples[..n]);
+        length += taken;
+        if taken < n {
             return Hearing {
                 reply,
                 decoder,

@@ -7,7 +7,9 @@ ghost use Rattle.whole_numbers.specs.Whole.{clamped, RoundedDown};
 pub fn product(a: i16, b: i16) -> i64
     ensures { λ r. ⌜ r ≡ a *ℤ b ⌝ }
 {
-    a as i64 * b as i64
+    let x = a as i64;
+    let y = b as i64;
+    x * y
 }
 
 // The nearest number of 16 bits.

@@ -23,9 +23,6 @@ abbrev μ-loop : tie.MeasureT-loop
 loop-holds : tie.Need-loop-holds Inv-loop μ-loop
 loop-holds c = framing-first _ _ _ _ _ _ _
 
-header-at-requires : tie.Need-header-at-requires Inv-loop μ-loop
-header-at-requires c κs = search needs
-
 -- the data and the places of a whole frame
 inside : (c : tie.In-loop Inv-loop μ-loop) → (14 ≤ 2 * (length (c .before .before .before .args .block .now) - (c .before .loop .first + 1)))
     × (c .before .loop .first + 8 < length (c .before .before .before .args .block .now))
@@ -65,18 +62,12 @@ loop-again c =
     (framing-next (l .before .loop .inv) (l .loop-test .taken) (l .before .before .before .pre .0) (room l) (e .0) (e .1)
     (sym (header-later (a .block .now) (l .before .loop .first + 8) (a .ps0) (λ z. omega (arith, z)))))
 
-header-at-requires-2 : tie.Need-header-at-requires-2 Inv-loop μ-loop
-header-at-requires-2 c κs = search needs
-
 -- and of the last
 rest : (c : tie.After-loop Inv-loop μ-loop) → c .before .loop .left ≤ 16
 rest c = omega (arith, c .loop-test .left)
 
 add-decode-frame-2 : tie.Need-add-decode-frame-2 Inv-loop μ-loop
 add-decode-frame-2 c = let d = c .before .before .loop .inv in omega (arith, d .bytes)
-
-halves-in-requires : tie.Need-halves-in-requires Inv-loop μ-loop
-halves-in-requires c κs = search needs
 
 decode-frame-requires-2 : tie.Need-decode-frame-requires-2 Inv-loop μ-loop
 decode-frame-requires-2 c κs =
@@ -103,7 +94,7 @@ decode-frames-spec =
     Inv-loop
     μ-loop
     loop-holds
-    header-at-requires
+    (λ c κs. search needs)
     add-decode-frame
     decode-frame-requires
     add-first
@@ -111,9 +102,9 @@ decode-frames-spec =
     sub-left
     loop-less
     loop-again
-    header-at-requires-2
+    (λ c κs. search needs)
     add-decode-frame-2
-    halves-in-requires
+    (λ c κs. search needs)
     decode-frame-requires-2
     same-length
     returns)

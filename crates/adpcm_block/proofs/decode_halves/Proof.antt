@@ -30,9 +30,6 @@ loop-holds c = halving-first _ _ _ _ _ _ _ _
 half-at-requires : tie.Need-half-at-requires Inv-loop μ-loop
 half-at-requires c κs = omega (arith, c .loop-test .taken)
 
-next-sample-requires : tie.Need-next-sample-requires Inv-loop μ-loop
-next-sample-requires c κs = search needs
-
 room : (c : tie.After-next-sample Inv-loop μ-loop)
     → c .before .before .before .before .before .args .at + c .before .before .before .loop .i < length (c .before .before .before .loop .samples)
 room c = let d = c .before .before .before .loop .inv in omega (arith, d .size, c .before .before .loop-test .taken)
@@ -85,7 +82,7 @@ decode-halves-spec =
     μ-loop
     loop-holds
     half-at-requires
-    next-sample-requires
+    (λ c κs. search needs)
     add-x
     mul-x
     slice-set-from-x

@@ -9,15 +9,6 @@ use Rattle.adpcm_sample.proofs.SampleLaws.{predicted-fits, half-fits, s
 use Rattle.adpcm_sample.proofs.next_sample.Statement.{statement}
 use Rattle.adpcm_sample.proofs.next_sample.Tie as tie
 
-prediction-requires : tie.Need-prediction-requires
-prediction-requires c κs = search needs
-
-signed-half-requires : tie.Need-signed-half-requires
-signed-half-requires c κs = search needs
-
-scale-requires : tie.Need-scale-of-requires
-scale-requires c κs = search needs
-
 said : (c : tie.After-scale-of)
     → c .before .before .prediction .result ≡ predicted (c .before .before .before .args .c0) (c .before .before .before .args .c1) (c .before .before .before .args .last) (c .before .before .before .args .oldest)
 said c =
@@ -41,9 +32,6 @@ add-clamp-i16 c =
     (said c, c .before .signed-half .ensures, c .scale-of .ensures, toZ-ofZ (half-fits _ h), toZ-ofZ (scale-fits (a .ps)), toZ-ofZ (scaled-fits (a .half) (a .ps) h), toZ-ofZ (predicted-fits (f .c0) (f .c1) (f .last) (f .oldest)))
     (whole-fits (f .c0) (f .c1) (f .last) (f .oldest) (a .half) (a .ps) h)
 
-clamp-requires : tie.Need-clamp-i16-requires
-clamp-requires c κs = search needs
-
 returns : tie.Need-returns
 unfolding sample
 returns c =
@@ -58,10 +46,10 @@ pub next-sample-spec : {M : Type 1} → statement M
 next-sample-spec =
     tie.close
     (tie.spec
-    prediction-requires
-    signed-half-requires
-    scale-requires
+    (λ c κs. search needs)
+    (λ c κs. search needs)
+    (λ c κs. search needs)
     mul-clamp-i16
     add-clamp-i16
-    clamp-requires
+    (λ c κs. search needs)
     returns)

@@ -9,12 +9,6 @@ use Rattle.adpcm_sample.proofs.SampleLaws.{less-fits}
 use Rattle.adpcm_sample.proofs.signed_half.Statement.{statement}
 use Rattle.adpcm_sample.proofs.signed_half.Tie as tie
 
-cast-result : tie.Need-cast-result
-cast-result c = search needs
-
-cast-result-2 : tie.Need-cast-result-2
-cast-result-2 c = search needs
-
 sub-result : tie.Need-sub-result
 sub-result c = rw (toZ-pos w64 (c .before .args .half) (omega arith)) (less-fits (c .before .args .half) (omega arith))
 
@@ -28,4 +22,4 @@ returns-2 c =
     rw (le-ltb _ _ (c .if1 .left), toZ-pos w64 (c .before .args .half) (omega arith)) (toZ-ofZ (less-fits (c .before .args .half) (omega arith)))
 
 pub signed-half-spec : {M : Type 1} → statement M
-signed-half-spec = tie.close (tie.spec cast-result cast-result-2 sub-result returns returns-2)
+signed-half-spec = tie.close (tie.spec (λ c. search needs) (λ c. search needs) sub-result returns returns-2)

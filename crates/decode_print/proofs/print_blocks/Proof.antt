@@ -77,8 +77,15 @@ slice-aggregate-print-samples c = sym (length-take-le _ _ (one (c .before) .fits
 print-samples-requires : tie.Need-print-samples-requires Inv-loop μ-loop
 print-samples-requires c κs = let o = one (c .before) in rw (length-take-le _ _ (o .fits)) (o .samples)
 
+-- the system takes no more of them
+took : (c : tie.After-print-samples Inv-loop μ-loop) → c .print-samples .result ≤ c .before .before .before .before .reply .given .0 .0
+took c =
+    let n = c .before .before .before .before .reply .given .0 .0 in
+    let after = c .before .before .before .before .before .before .before .decode .last .1 .1 .1 .1 .0 in
+    omega (arith, c .print-samples .ensures, length-take-le n after (one (c .before .before) .fits))
+
 add-length : tie.Need-add-length Inv-loop μ-loop
-add-length c = let o = one (c .before .before) in omega (arith, o .inside, o .next .few)
+add-length c = let o = one (c .before .before) in omega (arith, took c, o .inside, o .next .few)
 
 same-length-2 : tie.Need-same-length-2 Inv-loop μ-loop
 same-length-2 c = kept (c .before .before .before .before .before .before .before .before)
@@ -87,7 +94,7 @@ returns-2 : tie.Need-returns-2 Inv-loop μ-loop
 returns-2 c =
     let o = one (c .before .before .before) in
     record {
-      most = o .inside;
+      most = omega (arith, took (c .before), o .inside);
       before = λ w. apart (sym w);
       reply = λ w. apart (sym w);
       quiet = λ w. apart (sym w);
@@ -100,8 +107,9 @@ loop-less c = one (c .before .before .before) .less
 loop-again : tie.Need-loop-again Inv-loop μ-loop
 loop-again c =
     let l = c .before .before .before .before .before .before .before .before .before .before in
-    let i = l .loop .inv in (
-      (i .0 .0, one (c .before .before .before) .next),
+    let i = l .loop .inv in
+    let all : c .before .print-samples .result ≡ c .before .before .before .before .before .reply .given .0 .0 = omega (arith, took (c .before), c .if1 .left) in (
+      (i .0 .0, rw all (one (c .before .before .before) .next)),
       (kept (c .before .before .before .before .before .before .before .before), i .1 .1),
     )
 

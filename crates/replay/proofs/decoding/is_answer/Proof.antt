@@ -10,9 +10,6 @@ array-borrow-prefix-lent c = search needs
 slice-aggregate-is-decoded : tie.Need-slice-aggregate-is-decoded
 slice-aggregate-is-decoded c = sym (length-take-le _ _ (array-borrow-prefix-lent (c .before)))
 
-returns : tie.Need-returns
-returns c = search needs
-
 pub is-answer-spec : {M : Type 1} → statement M
 is-answer-spec =
     tie.close
@@ -23,4 +20,4 @@ is-answer-spec =
     array-borrow-prefix-lent
     slice-aggregate-is-decoded
     (λ c κs. search needs)
-    returns)
+    (λ c. search needs))

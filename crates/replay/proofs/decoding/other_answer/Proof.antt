@@ -9,15 +9,6 @@ Inv-loop s r body from at₀ turns₀ at turns = (at ≤ 8589934608 + 8589934628
 abbrev μ-loop : tie.MeasureT-loop
 μ-loop s r body from at₀ turns₀ at turns = 1030 - turns
 
-returns : tie.Need-returns Inv-loop μ-loop
-returns c = search needs
-
-returns-2 : tie.Need-returns-2 Inv-loop μ-loop
-returns-2 c = search needs
-
-returns-3 : tie.Need-returns-3 Inv-loop μ-loop
-returns-3 c = search needs
-
 pub other-answer-spec : {M : Type 1} → statement M
 other-answer-spec =
     tie.close
@@ -25,20 +16,20 @@ other-answer-spec =
     Inv-loop
     μ-loop
     (λ c. search needs)
-    returns
-    (λ c. search needs)
-    (λ c κs. search needs)
     (λ c. search needs)
     (λ c. search needs)
     (λ c κs. search needs)
+    (λ c. search needs)
+    (λ c. search needs)
     (λ c κs. search needs)
     (λ c κs. search needs)
-    (λ c. search needs)
-    returns-2
-    (λ c. search needs)
+    (λ c κs. search needs)
     (λ c. search needs)
     (λ c. search needs)
     (λ c. search needs)
     (λ c. search needs)
     (λ c. search needs)
-    returns-3)
+    (λ c. search needs)
+    (λ c. search needs)
+    (λ c. search needs)
+    (λ c. search needs))

@@ -37,7 +37,8 @@ returns-3 c =
     let f : SFits w16 (a .context .last) = search (needs, c .before .before .before .before .struct-told .given) in
     let g : SFits w16 (a .context .oldest) = search (needs, c .before .before .before .struct-told2 .given) in
     let e = simp (toZ-ofZ f, toZ-ofZ g) at (q .ensures) in
-    decoded-fills _ (a .coefficients .now) (a .context) (a .n) (a .block .now) (whole (c .before .before .before .before .before .before)) (room (c .before .before .before .before .before)) (a .samples .now) (e .0) (e .1)
+    let b = c .before .before .before .before .before in
+    decoded-fills _ (a .coefficients .now) (a .context) (a .n) (a .block .now) (whole (b .before)) (room b) (a .samples .now) (e .0) (e .1)
 
 pub decode-block-spec : {M : Type 1} → statement M
 decode-block-spec =

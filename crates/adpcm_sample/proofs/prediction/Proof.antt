@@ -33,8 +33,16 @@ unfolding predicted
 returns c =
     let f = c .before .before .fits in
     let s = sum-fits (f .c0) (f .c1) (f .last) (f .oldest) 1024 refl in
-    simp
-    (near c, far c, toZ-ofZ (times-fits (f .c0) (f .last)), toZ-ofZ (times-fits (f .c1) (f .oldest)), toZ-ofZ (two-fits (f .c0) (f .c1) (f .last) (f .oldest)), toZ-ofZ s, shr-floor, toZ-ofZ (floor-fits 2048 s))
+    simp (
+      near c,
+      far c,
+      toZ-ofZ (times-fits (f .c0) (f .last)),
+      toZ-ofZ (times-fits (f .c1) (f .oldest)),
+      toZ-ofZ (two-fits (f .c0) (f .c1) (f .last) (f .oldest)),
+      toZ-ofZ s,
+      shr-floor,
+      toZ-ofZ (floor-fits 2048 s),
+    )
 
 pub prediction-spec : {M : Type 1} → statement M
 prediction-spec =

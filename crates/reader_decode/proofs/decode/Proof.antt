@@ -24,8 +24,9 @@ returns-2 c =
 returns-3 : tie.Need-returns-3
 returns-3 c =
     let a = c .before .before .before .before .before .before .before .before .before .args in
+    let f = ap (λ (x : Channel). x .format) (sym (c .before .before .before .before .before .before .channel-of .ensures)) in
     call-there (a .decoder) (a .samples .now) (c .before .decode-there .ensures)
-    (early-block (now (a .s)) (a .r) (a .channel) (a .decoder .position) (length (a .samples .now)) _ (ap (λ (x : Channel). x .format) (sym (c .before .before .before .before .before .before .channel-of .ensures)))
+    (early-block (now (a .s)) (a .r) (a .channel) (a .decoder .position) (length (a .samples .now)) _ f
     (sym (c .before .before .before .enum-told2 .given .1) ∙ c .before .before .before .before .before .due-early .ensures))
 
 pub decode-spec : {M : Type 1} → statement M

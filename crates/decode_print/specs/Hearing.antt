@@ -20,11 +20,11 @@ use Rattle.decode_print.specs.declared.Hearing.{Hearing}
 abbrev pub wholeFrames : (addresses : ℕ) → ℕ
 wholeFrames n = n / 16 * 14
 
--- No block in a slot has more samples than these: two addresses to every byte of the longest slot.
+-- No block in a slot has more samples than these (`RoomForEach`): two addresses to every byte of the longest slot.
 abbrev pub mostSamples : ℕ
 mostSamples = wholeFrames (2 * slotLimit)
 
--- Nor has a block that was pushed more than these.
+-- Those of the longest block that can be pushed.
 abbrev pub pushedSamples : ℕ
 pushedSamples = wholeFrames lengthLimit
 

@@ -52,7 +52,7 @@ endOn s ch (Opened.opened r) = endFrom s r ch newDecoder
 unfoldable pub channelEnd : List ℕ → (channel : ℕ) → DecodeReply
 channelEnd s ch = endOn s ch (opening s)
 
--- They are places enough for every block of a slot that opens.
+-- `mostSamples` are places enough for every block of a slot that opens.
 unfoldable pub RoomForEach : Type 0
 RoomForEach = (s : List ℕ) (r : HpsReader) → opening s ≡ Opened.opened r → (channel position : ℕ) → decoding s r channel position mostSamples ≡ DecodeAnswer.refused 14 → ⊥
 

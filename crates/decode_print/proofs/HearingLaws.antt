@@ -20,7 +20,7 @@ use Rattle.reader_decode.specs.Decoding.{DecodeAnswer, decoderAt, newDecoder, d
 use Rattle.reader_decode.specs.declared.Decoder.{Decoder}
 use Rattle.reader_decode.specs.declared.DecodeReply.{DecodeReply}
 use Rattle.reader_decode.specs.declared.DecodeCall.{DecodeCall}
-use Rattle.reader_decode.proofs.ReadLaws.{DecodingSays, decoding-says, decoding-room}
+use Rattle.reader_decode.proofs.ReadLaws.{Longer, DecodingSays, decoding-says, decoding-room}
 use Rattle.decode_print.specs.declared.Hearing.{Hearing}
 use Rattle.decode_print.specs.Hearing.{mostSamples, heardFrom, endFrom, samplesOn, channelSamples, endOn, channelEnd, RoomForEach, HeardOf, Before, isSamples, isShort, HeardTo}
 
@@ -243,6 +243,10 @@ none-of s ch n e = rw e (record { most = omega arith; all = λ w. refl; ends = �
 
 -- ---- Room
 
+-- 14 tells of a block with more samples than places
+longer : (s : List ℕ) (r : HpsReader) (ch i : ℕ) {places : ℕ} → decoding s r ch i places ≡ DecodeAnswer.refused 14 → Longer s places
+longer s r ch i {places} f = (rw f at (decoding-says s r i places ch)) refl
+
 pub room-for-each : RoomForEach
 unfolding RoomForEach opening adpcmBytes
 room-for-each s r e ch i f =
@@ -250,5 +254,5 @@ room-for-each s r e ch i f =
     (λ t. let g : Opened.refused 7 ≡ Opened.opened r = rw t at e in absurd (let z : _≡_ {A = ℕ} 0 1 = cc in omega arith))
     (λ t.
     let short = ltb-false slotLimit (length s) t in
-    let k = (rw f at (decoding-says s r i mostSamples ch)) refl in
+    let k = longer s r ch i f in
     absurd (omega (arith, short, k .inside, k .longer, samples-most (k .dataLength) 2097152 (omega (arith, k .inside, short)))))

@@ -1,12 +1,12 @@
 use mathlib.Core.Path.{sym}
 use lib.Seq.{length-take-le}
 use borrow.Author.Needs.{needs}
-use Rattle.key_print.proofs.StopLaws.{stop-long, stop-inside, stop-put}
+use Rattle.key_print.proofs.StopLaws.{line-inside, stop-long, stop-put}
 use Rattle.key_print.proofs.print_stop.Statement.{statement}
 use Rattle.key_print.proofs.print_stop.Tie as tie
 
 array-share-prefix-line : tie.Need-array-share-prefix-line
-array-share-prefix-line c = stop-inside (c .before .before .before .args .number) (c .before .put-stop .ensures) (search needs)
+array-share-prefix-line c = line-inside (c .before .put-stop .ensures)
 
 slice-aggregate-write-stop : tie.Need-slice-aggregate-write-stop
 slice-aggregate-write-stop c = sym (length-take-le _ _ (array-share-prefix-line (c .before)))

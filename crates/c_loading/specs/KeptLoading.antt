@@ -44,6 +44,13 @@ givenAfter n before x = pick (eqb n 0) x before
 
 -- ---- The bytes of an accepted call
 
+-- By whether a reply has writes.
+abbrev pub whereWritten : {A : Type 0} → Reply → A → A → A
+whereWritten (Refused n) x y = y
+whereWritten NoWrite x y = y
+whereWritten (OneWrite p) x y = x
+whereWritten (ThreeWrites n p q r) x y = x
+
 -- Begin puts the record's numbers and sides; its table is empty.
 abbrev pub bytesBegun : (kept : List ℕ) → Outcome → List ℕ
 bytesBegun kept o = putAt kept 0 (recordBytes (fieldsOf (o .writer)))
@@ -52,9 +59,9 @@ bytesBegun kept o = putAt kept 0 (recordBytes (fieldsOf (o .writer)))
 abbrev pub bytesCued : (kept : List ℕ) → Outcome → List ℕ
 bytesCued kept o = tablePut kept (o .writer .table .cues) (o .writer .table .count)
 
--- Push puts the numbers, and the first one the sides.
+-- Push puts the numbers, and the first block's the sides; an empty push, which hands out no write, leaves every byte.
 abbrev pub bytesPushed : (kept : List ℕ) → Outcome → List ℕ
-bytesPushed kept o = putAt kept 0 (pushedBytes (fieldsOf (o .writer)))
+bytesPushed kept o = whereWritten (o .reply) (putAt kept 0 (pushedBytes (fieldsOf (o .writer)))) kept
 
 -- Finish puts the mark of a finished stream.
 abbrev pub bytesFinished : (kept : List ℕ) → List ℕ

@@ -1,7 +1,7 @@
 -- The record that bytes hold after a push is the record that the push gives.
 use Prim.Native.Nat.{ℕ, _+_, _-_, _≤_}
 use mathlib.Core.Path.{_≡_, refl, sym, ap, subst, _∙_}
-use mathlib.Core.Bool.{Bool}
+use mathlib.Core.Bool.{Bool, false}
 use mathlib.Core.List.{List, [], _∷_, map, map-id}
 use native.Mathlib.Omega.{arith}
 use lib.ListN.{length}
@@ -17,10 +17,10 @@ use Rattle.layout.specs.Lists.{All}
 use Rattle.layout.specs.Puts.{putAt}
 use Rattle.layout.proofs.Cases.{by-cases}
 use Rattle.layout.proofs.PutLaws.{putAt-length}
-use Rattle.writer.specs.Loading.{pushRefusal, pushArgs}
+use Rattle.writer.specs.Loading.{emptyPush, pushRefusal, pushArgs}
 use Rattle.writer.specs.Push.{advanced}
 use Rattle.writer.specs.Calls.{stateIn, takenOf, pushOf, Good}
-use Rattle.writer.proofs.GoodLaws.{push-good}
+use Rattle.writer.proofs.GoodLaws.{block-good}
 use Rattle.writer.specs.declared.ChannelBlock.{ChannelBlock}
 use Rattle.writer.specs.declared.Cue.{Cue}
 use Rattle.writer_assign_cues.specs.declared.Taken.{Taken}
@@ -70,17 +70,17 @@ unfolding fieldsIn
 side-there k = (refl, refl)
 
 module _ (k : List ℕ) (some : streamIn k .slot ≡ 0 → ⊥) {ch : ℕ} {l r : ChannelBlock} {ld rd : List ℕ} {last : Bool} {lent : List ℕ} {end : ℕ} {t : Taken} {held : Bool} {plan : Plan}
-    (w : Worked (writerIn k) ch l r ld rd last lent end t held plan) (z : plan .due ≡ 0) (fl : SideFits l) (fr : SideFits r) (long : Long (streamIn k .channels)) where
+    (w : Worked (writerIn k) ch l r ld rd last lent end t held plan) (z : plan .due ≡ 0) (block : emptyPush (pushArgs ch l r ld rd last) ≡ false) (fl : SideFits l) (fr : SideFits r) (long : Long (streamIn k .channels)) where
   abbrev next : Fields
   next = fieldsWith (streamIn k) (plan .after)
 
   next-good : Good (writerOf (tableIn k cuesAt (streamIn k .count)) next)
-  next-good = rw (after-is w z) (push-good (writerIn k) (pushArgs ch l r ld rd last) (length lent) (kept-good k) (sym (due-is w) ∙ z))
+  next-good = rw (after-is w z block) (block-good (writerIn k) (pushArgs ch l r ld rd last) (length lent) (kept-good k) block (sym (due-is w) ∙ z))
 
   first-fits : next .blocks ≡ 1 → SideFits (next .left) × SideFits (next .right)
   unfolding advanced
   first-fits e =
-      let a = advances w z in
+      let a = advances w z block in
       let none : streamIn k .blocks ≡ 0 = omega (arith, e, ap (λ (m : Stream). m .blocks) a) in
       rw (a, eq-eqb (streamIn k .blocks) 0 none) (fl, fr)
 
@@ -89,7 +89,7 @@ module _ (k : List ℕ) (some : streamIn k .slot ≡ 0 → ⊥) {ch : ℕ} {l r 
   later-there h =
       let there = holds k some .is in
       let e = side-there k in
-      let a = advances w z in
+      let a = advances w z block in
       rw (a, ne-eqb (streamIn k .blocks) 0 (λ n. h (ap (λ (m : Stream). m .blocks) a ∙ ap (λ (m : ℕ). m + 1) n)))
       (sym (ap (λ (s : Fields). s .left) there ∙ e .0), sym (ap (λ (s : Fields). s .right) there ∙ e .1))
 
@@ -101,15 +101,15 @@ module _ (k : List ℕ) (some : streamIn k .slot ≡ 0 → ⊥) {ch : ℕ} {l r 
   push-after =
       let p = pushArgs ch l r ld rd last in
       let is = kept-there in
-      rw (eq-eqb (pushRefusal (stateIn (writerIn k)) (takenOf (writerIn k) p) p (length lent)) 0 (sym (due-is w) ∙ z))
+      rw (eq-eqb (pushRefusal (stateIn (writerIn k)) (takenOf (writerIn k) p) p (length lent)) 0 (sym (due-is w) ∙ z), block)
       (pushed-back k (holds k some .room) next (tableIn k cuesAt (streamIn k .count)) next-good (omega arith) first-fits later-there
-      ∙ ap (λ (n : ℕ). writerOf (tableIn k cuesAt n) next) (is .1) ∙ after-is w z)
+      ∙ ap (λ (n : ℕ). writerOf (tableIn k cuesAt n) next) (is .1) ∙ after-is w z block)
 
   pub push-stream : next ≡ fieldsOf (pushOf (writerIn k) (pushArgs ch l r ld rd last) lent .writer)
   unfolding pushOf
   push-stream =
       let p = pushArgs ch l r ld rd last in
-      rw (eq-eqb (pushRefusal (stateIn (writerIn k)) (takenOf (writerIn k) p) p (length lent)) 0 (sym (due-is w) ∙ z)) (ap fieldsOf (after-is w z))
+      rw (eq-eqb (pushRefusal (stateIn (writerIn k)) (takenOf (writerIn k) p) p (length lent)) 0 (sym (due-is w) ∙ z), block) (ap fieldsOf (after-is w z block))
 
 -- ---- The elements of an array of i16 that is a field
 

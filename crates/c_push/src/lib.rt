@@ -82,6 +82,14 @@ pub fn push_kept(
     if plan.due != 0 {
         return refused(plan.due);
     }
+    // An empty push: no block, and nothing to keep.
+    if plan.size == 0 {
+        return KeptCall {
+            number: 0,
+            offset: 0,
+            length: 0,
+        };
+    }
     let header = plan.header;
     put_header(lent, 0, header);
     put_taken_kept(

@@ -11,9 +11,9 @@ use Rattle.layout.specs.Lists.{sum}
 use Rattle.layout.specs.Puts.{putAt}
 use Rattle.layout.proofs.Cases.{by-cases, apart}
 use Rattle.writer.specs.WritesAndCuttingRule.{Write, write, placeOf, handed, writesIn, mostWrites}
-use Rattle.writer.specs.Loading.{Push, refused, accepted, beginRefusal, beginWrite, pushRefusal, finishRefusal, blockSize, startWrite, restWrite, markWrite}
+use Rattle.writer.specs.Loading.{Push, refused, accepted, beginRefusal, beginWrite, emptyPush, pushRefusal, finishRefusal, blockSize, startWrite, restWrite, markWrite}
 use Rattle.writer.specs.Calls.{Handed, handedWrites, replyFor, placesIn, Outcome, outcome, writes, called, blank, emptyOf, beginOf, takenOf, stateIn, nextFor}
-use Rattle.writer.specs.Calls.{pushBytes, afterPush, pushOf, headerOf, afterFinish, finishOf, answerOf, Good}
+use Rattle.writer.specs.Calls.{pushBytes, afterBlock, pushOf, headerOf, afterFinish, finishOf, answerOf, Good}
 use Rattle.writer.specs.declared.Looping.{Looping}
 use Rattle.writer.specs.declared.HpsWriter.{HpsWriter}
 use Rattle.writer.specs.declared.Called.{Called}
@@ -140,29 +140,41 @@ module _ (w : HpsWriter) (p : Push) (lent : List ℕ) (l : Logging) (g : Good w)
   unfolding block pushBytes
   size = one-handed (w .stream .offset) (pushBytes w p) ∙ bytes-length (nextFor w p) (w .stream .base) (w .stream .id) (takenOf w p) p
 
-  -- No push is accepted after the last block, so none after a finish.
-  unfinished : eqb n 0 ≡ true → w .finished ≡ false
+  -- No block is accepted after the last one, so none after a finish.
+  unfinished : emptyPush p ≡ false → eqb n 0 ≡ true → w .finished ≡ false
   unfolding n
-  unfinished q =
-      let f = passed _ _ p _ (eqb-true _ 0 q) in
+  unfinished e q =
+      let f = passed _ _ p _ e (eqb-true _ 0 q) in
       by-cases (w .finished) (λ d. apart (sym (g .done d) ∙ f .no26)) (λ d. d)
 
-  push-fits : Fits n w lent (afterPush w p) (Handed.one block) (l .log) (l .bytes)
+  -- an empty push hands out nothing
+  nothing-fits : Fits n w lent w Handed.none (l .log) (l .bytes)
+  unfolding handed
+  nothing-fits q = (omega (arith, t .listed .few), omega (arith, t .listed .inside))
+
+  nothing-counts : Counts n w lent w Handed.none (l .log) (l .bytes)
+  unfolding handed
+  nothing-counts q = (t .small, λ u. (omega (arith, t .many u), omega (arith, t .bytes u)))
+
+  push-fits : emptyPush p ≡ false → Fits n w lent (afterBlock w p) (Handed.one block) (l .log) (l .bytes)
   unfolding n block
-  push-fits q =
-      let f = passed _ _ p _ (eqb-true _ 0 q) in
+  push-fits e q =
+      let f = passed _ _ p _ e (eqb-true _ 0 q) in
       let fit = ltb-false (w .setup .slot) (w .stream .offset + blockSize (takenOf w p) p) (f .no24) in
       let many = leb-false blockLimit (w .stream .blocks) (f .no25) in
-      let u = unfinished q in
+      let u = unfinished e q in
       (omega (arith, t .many u), omega (arith, t .bytes u, t .small, t .room, size))
 
-  push-counts : Counts n w lent (afterPush w p) (Handed.one block) (l .log) (l .bytes)
-  unfolding afterPush advanced block
+  push-counts : Counts n w lent (afterBlock w p) (Handed.one block) (l .log) (l .bytes)
+  unfolding afterBlock advanced block
   push-counts q = (t .small, λ u. (omega (arith, t .many u), omega (arith, t .bytes u, size)))
 
   pub push-tallied : Tallied (pushOf w p lent) l (logAfter (pushOf w p lent) l)
   unfolding pushOf n block
-  push-tallied = tallied n w lent (afterPush w p) (Handed.one block) l t push-fits push-counts
+  push-tallied =
+      by-cases (emptyPush p)
+      (λ e. rw e (tallied n w lent w Handed.none l t nothing-fits nothing-counts))
+      (λ e. rw e (tallied n w lent (afterBlock w p) (Handed.one block) l t (push-fits e) push-counts))
 
 -- ---- Finish
 

@@ -13,7 +13,7 @@ use Rattle.reader.specs.OpeningAndReading.{BlockAnswer, refused, ended, gave}
 use Rattle.reader.specs.CuesReadBack.{CueAnswer}
 use Rattle.reader.specs.declared.LoopStart.{LoopStart}
 use Rattle.reader.specs.declared.HpsReader.{HpsReader}
-use Rattle.writer.specs.Loading.{Side, Push, Call, Answer, answerBy, byMode, loops, has, insert, cueRefusal, lengthOf, points, anyLoop, blockSize, PushState}
+use Rattle.writer.specs.Loading.{Side, Push, Call, Answer, answerBy, byMode, loops, has, insert, cueRefusal, lengthOf, points, anyLoop, blockSize, PushState, emptyPush}
 use Rattle.writer.specs.Loading.{pushRefusal, finishRefusal, noBlock, filled, second}
 use Rattle.writer.specs.declared.Looping.{Looping}
 use Rattle.writer.specs.declared.Cue.{Cue}
@@ -95,9 +95,13 @@ unfoldable pub enters : Book → Push → Block
 enters b p = record { push = p; offset = endOfBlocks (b .blocks); base = baseOf (b .blocks); cues = takes b p }
 
 -- "A push enters its block"
-abbrev pub withPush : Book → Push → Book
-withPush b p =
+abbrev pub withBlock : Book → Push → Book
+withBlock b p =
     record { slotLength = b .slotLength; channels = b .channels; mode = b .mode; cues = b .cues; blocks = b .blocks ++ (enters b p ∷ []); finished = b .finished }
+
+-- An empty push: "the loading book accepts them and stays as it is" (document 02, Card 2).
+abbrev pub withPush : Book → Push → Book
+withPush b p = pick (emptyPush p) b (withBlock b p)
 
 -- "An accepted finish makes the book finished"
 abbrev pub withFinish : Book → Book

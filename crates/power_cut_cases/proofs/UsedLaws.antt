@@ -19,7 +19,7 @@ use Rattle.layout.specs.Refusals.{firstDue}
 use Rattle.layout.specs.declared.FrameContext.{FrameContext}
 use Rattle.layout.proofs.Cases.{or-false}
 use Rattle.writer.specs.Loading.{Side, Call, cue, push, finish, accepted, rangeLength, lengthOf, lexLt, before, has, insert, points, pointsOf, bytesOf, sameZ}
-use Rattle.writer.specs.Loading.{dataSize, stateDue, rateDue, lengthDue, dataDue, coefficientsDue, earlyDue, roomDue, pushOrder, filled, second, headerFor}
+use Rattle.writer.specs.Loading.{dataSize, stateDue, noAddresses, blocksDue, rateDue, lengthDue, dataDue, coefficientsDue, earlyDue, roomDue, pushOrder, filled, second, headerFor}
 use Rattle.writer.specs.Typed.{TypedBlock, TypedSide, Typed}
 use Rattle.writer.specs.Calls.{beginOf, answerOf}
 use Rattle.writer.specs.declared.Looping.the-variants.{Auto}
@@ -130,7 +130,7 @@ record Computes (n ch : ℕ) (cs : List Call) (bytes lengths : List ℕ) (writte
 
 computes : Computes 300 1 worked file (16 ∷ []) 1 × Computes 420 2 recorded files.stereo (16 ∷ 16 ∷ []) 7
 unfolding filter any sum flatMap same firstIndex be16 be32 beZ16 P contextBytes channelBytes noChannel fileHeaderBytes headerBytes cueBytes fillers padded sizeOf blockHeader blockBytes
-    adpcmBytes adpcmSamples firstDue lexLt before has insert points pointsOf bytesOf sameZ dataSize stateDue rateDue lengthDue dataDue coefficientsDue earlyDue roomDue pushOrder filled
+    adpcmBytes adpcmSamples firstDue lexLt before has insert points pointsOf bytesOf sameZ dataSize stateDue noAddresses blocksDue rateDue lengthDue dataDue coefficientsDue earlyDue roomDue pushOrder filled
     second headerFor beginOf baseOf endOfBlocks lastPushed takes enters bookRun loopBlock nextOf blocksBytes fileHeader fileBytes
 computes = (
   record { begins = refl; typed = refl; done = refl; file = refl; end = refl; blocks = refl; cues = refl },

@@ -19,7 +19,7 @@ use Rattle.layout.specs.declared.Channel.{Channel}
 use Rattle.layout.specs.declared.CuePoint.{CuePoint}
 use Rattle.layout.proofs.Cases.{by-cases, or-false}
 use Rattle.writer.specs.WritesAndCuttingRule.{Write, write}
-use Rattle.writer.specs.Loading.{Push, Call, lengthOf, headerFor, bytesOf, beginWrites, headerWrites, points, pointsOf}
+use Rattle.writer.specs.Loading.{Push, Call, lengthOf, emptyPush, headerFor, bytesOf, beginWrites, headerWrites, points, pointsOf}
 use Rattle.writer.specs.Typed.{Typed, TypedPush}
 use Rattle.writer.specs.declared.Cue.{Cue}
 use Rattle.writer.proofs.CueLaws.{points-few, points-length}
@@ -143,7 +143,8 @@ header-bytes b = to-bytes (small-file _ _ _ _)
 handed-bytes : (b : Book) (c : Call) → Typed c → Invariant b → All Written (handsOut b c)
 unfolding handsOut enters
 handed-bytes b (Call.cue c) t h = none
-handed-bytes b (Call.push p lent) t h = more (to-bytes (push-bytes _ _ _ (takes b p) p (taken-few b p h) (t .0))) none
+handed-bytes b (Call.push p lent) t h =
+    by-cases (emptyPush p) (λ e. rw e none) (λ e. rw e (more (to-bytes (push-bytes _ _ _ (takes b p) p (taken-few b p h) (t .0))) none))
 handed-bytes b (Call.finish lent) t h =
     let f = fileHeader b in
     let h = header-bytes b in

@@ -17,32 +17,34 @@ use Rattle.layout.proofs.Cases.{by-cases}
 use Rattle.layout.proofs.SizeLaws.{saturated-fits}
 use Rattle.layout.proofs.PutLaws.{putAt-in}
 use Rattle.layout_put_block.specs.HeaderPut.{headerPut}
-use Rattle.writer.specs.Loading.{Push, pushArgs, dataIn, points, anyLoop, dataSize, sizeWith, blockSize, bytesOf, earlyDue, pushOrder, pushRefusal}
+use Rattle.writer.specs.Loading.{Push, pushArgs, dataIn, points, anyLoop, dataSize, sizeWith, blockSize, bytesOf, stateDue, noAddresses, emptyPush, earlyDue}
+use Rattle.writer.specs.Loading.{pushOrder, pushRefusal}
 use Rattle.writer.specs.Push.{countTaken, cuesTaken, loopFrom, loopsHere, advanced}
 use Rattle.writer.specs.WritesAndCuttingRule.{handed}
-use Rattle.writer.specs.Calls.{called, sampleEnd, takenOf, endFor, stateIn, loopDue, loopAfter, nextFor, withStream, afterPush, pushBytes, pushOf, Good}
+use Rattle.writer.specs.Calls.{called, sampleEnd, takenOf, endFor, stateIn, loopDue, loopAfter, nextFor, withStream, afterBlock, pushBytes, pushOf, Good}
 use Rattle.writer.specs.declared.ChannelBlock.{ChannelBlock}
 use Rattle.writer.specs.declared.HpsWriter.{HpsWriter}
-use Rattle.writer.specs.declared.Reply.the-variants.{Refused, OneWrite}
+use Rattle.writer.specs.declared.Reply.the-variants.{Refused, NoWrite, OneWrite}
 use Rattle.writer.specs.declared.Called.{Called}
 use Rattle.writer.proofs.DueLaws.{passed}
 use Rattle.writer.proofs.GoodLaws.{samples-few}
 use Rattle.writer.proofs.WriteLaws.{bytes-length}
-use Rattle.writer_push_refusal.proofs.DecideLaws.{group-yes}
+use Rattle.writer_push_refusal.proofs.DecideLaws.{group-yes, group-same, group-none}
+use Rattle.writer_push_refusal.proofs.GroupLaws.{state-numbered}
 use Rattle.writer_assign_cues.specs.declared.Taken.{Taken}
 use Rattle.writer_assign_cues.specs.Taking.{tallied, filledBytes, Taking}
 use Rattle.writer_assign_cues.proofs.TakeLaws.{taken-slice, taken-count, taken-within, taken-few, taking}
 use Rattle.writer_push_plan.specs.declared.Plan.{Plan}
-use Rattle.writer_push_plan.specs.PushPlan.{planDue, headerIn, madePlan, planOf}
+use Rattle.writer_push_plan.specs.PushPlan.{planDue, headerIn, noPlan, madePlan, planOf}
 use Rattle.writer_push_plan.proofs.PlanLaws.{Passing, passing}
 use Rattle.writer_push.proofs.DataLaws.{block-put}
 
 -- ---- What push leaves
 
-pub has-room : (w : HpsWriter) (p : Push) (lent size : ℕ) → pushRefusal (stateIn w) (takenOf w p) p lent ≡ 0 → size ≡ blockSize (takenOf w p) p
+pub has-room : (w : HpsWriter) (p : Push) (lent size : ℕ) → emptyPush p ≡ false → pushRefusal (stateIn w) (takenOf w p) p lent ≡ 0 → size ≡ blockSize (takenOf w p) p
     → (w .stream .offset + size ≤ w .setup .slot) × (size ≤ lent)
-has-room w p lent size h e =
-    let f = passed _ _ p _ h in
+has-room w p lent size some h e =
+    let f = passed _ _ p _ some h in
     let a = ltb-false (w .setup .slot) (w .stream .offset + blockSize (takenOf w p) p) (f .no24) in
     let b = ltb-false lent (blockSize (takenOf w p) p) (f .no14) in
     (omega arith, omega arith)
@@ -55,35 +57,49 @@ module _ (w : HpsWriter) (p : Push) (lent : List ℕ) (n : ℕ) (is : n ≡ push
       let f : eqb (pushRefusal (stateIn w) (takenOf w p) p (length lent)) 0 ≡ false = ne-eqb _ 0 (λ z. h (is ∙ z)) in
       rw (f, e, is) (refl, refl)
 
-  pub push-accepted : n ≡ 0 → (v : HpsWriter) (size : ℕ) (b : List ℕ) → v ≡ afterPush w p → size ≡ blockSize (takenOf w p) p → size ≤ length lent → b ≡ putAt lent 0 (pushBytes w p)
+  pub push-nothing : n ≡ 0 → emptyPush p ≡ true → (record { reply = NoWrite; writer = w } ≡ called (pushOf w p lent)) × (lent ≡ pushOf w p lent .lent)
+  unfolding pushOf handed
+  push-nothing z e =
+      let f : eqb (pushRefusal (stateIn w) (takenOf w p) p (length lent)) 0 ≡ true = eq-eqb _ 0 (sym is ∙ z) in
+      rw (f, e) (refl, refl)
+
+  pub push-accepted : n ≡ 0 → emptyPush p ≡ false → (v : HpsWriter) (size : ℕ) (b : List ℕ) → v ≡ afterBlock w p → size ≡ blockSize (takenOf w p) p → size ≤ length lent
+      → b ≡ putAt lent 0 (pushBytes w p)
       → (record { reply = OneWrite (record { offset = w .stream .offset; length = size }); writer = v } ≡ called (pushOf w p lent)) × (b ≡ pushOf w p lent .lent)
   unfolding pushOf handed pushBytes
-  push-accepted z v size b ev es h eb =
+  push-accepted z e v size b ev es h eb =
       let f : eqb (pushRefusal (stateIn w) (takenOf w p) p (length lent)) 0 ≡ true = eq-eqb _ 0 (sym is ∙ z) in
       let n = bytes-length (nextFor w p) (w .stream .base) (w .stream .id) (takenOf w p) p in
       let i = putAt-in lent 0 (pushBytes w p) (omega arith) in
-      rw (f, ev, es) (rw n, rw append-nil (eb ∙ i ∙ rw zero-add))
+      rw (f, e, ev, es) (rw n, rw append-nil (eb ∙ i ∙ rw zero-add))
 
 -- ---- The order of refusals
 
 module _ (w : HpsWriter) (ch : ℕ) (l r : ChannelBlock) (ld rd : List ℕ) (last : Bool) where
   abbrev early : List Due
-  early = earlyDue (w .stream .last) (w .setup .channels) (w .stream .blocks) (w .stream .left) (w .stream .right) ch l r (length ld) (length rd)
+  early = earlyDue (w .stream .blocks) (w .stream .left) (w .stream .right) ch l r (length ld) (length rd)
 
-  -- the number of a plan that counts the points and ranges right where no number before 24 is due
+  abbrev empty : Bool
+  empty = noAddresses ch (l .length) (r .length) (length ld) (length rd) last
+
+  -- the number of a plan that counts the points and ranges right where none from 25 on is due before 24
   planned-due : (k m lent : ℕ) → (firstDue early ≡ 0 → k ≡ m)
-      → planDue (w .setup) (w .stream) k ch l r (length ld) (length rd) lent ≡ firstDue (pushOrder (stateIn w) m ch l r (length ld) (length rd) lent)
+      → planDue (w .setup) (w .stream) k ch l r (length ld) (length rd) last lent ≡ firstDue (pushOrder (stateIn w) m ch l r (length ld) (length rd) last lent)
   unfolding planDue pushOrder
   planned-due k m lent h =
-      by-cases (eqb (firstDue early) 0)
+      by-cases empty (λ e. rw e)
+      (λ e. rw e
+      (group-same (stateDue (w .stream .last) (w .setup .channels) ch) _ _
+      (by-cases (eqb (firstDue early) 0)
       (λ q. rw (h (eqb-true _ 0 q)))
-      (λ q. sym (group-yes (firstDue early) early _ refl (eqb-false _ 0 q)) ∙ group-yes (firstDue early) early _ refl (eqb-false _ 0 q))
+      (λ q. sym (group-yes (firstDue early) early _ refl (eqb-false _ 0 q)) ∙ group-yes (firstDue early) early _ refl (eqb-false _ 0 q)))))
 
-  -- none is due before 24 where none is due at all
-  early-none : (k lent : ℕ) → planDue (w .setup) (w .stream) k ch l r (length ld) (length rd) lent ≡ 0 → firstDue early ≡ 0
+  -- none from 25 on is due before 24 where none is due at all, and the push is not empty
+  early-none : (k lent : ℕ) → empty ≡ false → planDue (w .setup) (w .stream) k ch l r (length ld) (length rd) last lent ≡ 0 → firstDue early ≡ 0
   unfolding planDue pushOrder
-  early-none k lent z =
-      by-cases (eqb (firstDue early) 0) (λ q. eqb-true _ 0 q) (λ q. group-yes (firstDue early) early _ refl (eqb-false _ 0 q) ∙ z)
+  early-none k lent e z =
+      let rest = group-none (stateDue (w .stream .last) (w .setup .channels) ch) _ (state-numbered _ _ _) (rw e at z) in
+      by-cases (eqb (firstDue early) 0) (λ q. eqb-true _ 0 q) (λ q. group-yes (firstDue early) early _ refl (eqb-false _ 0 q) ∙ rest)
 
 -- ---- The cues that a push takes
 
@@ -118,11 +134,13 @@ module _ {w : HpsWriter} {ch : ℕ} {l r : ChannelBlock} {ld rd : List ℕ} {las
   args = pushArgs ch l r ld rd last
 
   abbrev number : ℕ
-  number = planDue (w .setup) (w .stream) (t .points) ch l r (length ld) (length rd) (length lent)
+  number = planDue (w .setup) (w .stream) (t .points) ch l r (length ld) (length rd) last (length lent)
 
   plan-due : plan .due ≡ number
   unfolding planOf madePlan
-  plan-due = ap (λ (p : Plan). p .due) (k .plans) ∙ by-cases (eqb number 0) (λ q. rw q (sym (eqb-true _ 0 q))) (λ q. rw q)
+  plan-due =
+      ap (λ (p : Plan). p .due) (k .plans)
+      ∙ by-cases (emptyPush args) (λ e. rw e) (λ e. rw e (by-cases (eqb number 0) (λ q. rw q (sym (eqb-true _ 0 q))) (λ q. rw q)))
 
   -- a length that is not refused
   module _ (short : l .length ≤ lengthLimit) where
@@ -158,15 +176,23 @@ module _ {w : HpsWriter} {ch : ℕ} {l r : ChannelBlock} {ld rd : List ℕ} {las
     asks = ap (λ (x : Taken). x .asked) (k .takes) ∙ ap anyLoop same
 
   pub due-is : plan .due ≡ pushRefusal (stateIn w) (takenOf w args) args (length lent)
-  due-is = plan-due ∙ planned-due w ch l r ld rd last (t .points) _ (length lent) (λ z. counted (passing _ _ _ _ _ _ _ _ _ _ _ refl z .short))
+  due-is = plan-due ∙ planned-due w ch l r ld rd last (t .points) _ (length lent) (λ z. counted (passing _ _ _ _ _ _ _ _ _ refl z .short))
 
-  module _ (z : plan .due ≡ 0) where
+  -- a block is planned where the push is not empty
+  pub some-block : (plan .size ≡ 0 → ⊥) → emptyPush args ≡ false
+  unfolding planOf
+  some-block h =
+      by-cases (emptyPush args)
+      (λ e. let is : plan ≡ noPlan number (w .stream) = k .plans ∙ rw e in absurd (h (ap (λ (p : Plan). p .size) is)))
+      (λ e. e)
+
+  module _ (z : plan .due ≡ 0) (some : emptyPush args ≡ false) where
     pub passes : Passing (w .stream .blocks) ch l (length ld) (length rd)
-    passes = passing _ _ _ _ _ _ _ _ _ _ _ refl (early-none w ch l r ld rd last (t .points) (length lent) (sym plan-due ∙ z))
+    passes = passing _ _ _ _ _ _ _ _ _ refl (early-none w ch l r ld rd last (t .points) (length lent) some (sym plan-due ∙ z))
 
     made : plan ≡ madePlan (w .setup) (w .stream) t held end ch l r (length ld) (length rd) last
     unfolding planOf
-    made = k .plans ∙ rw (eq-eqb number 0 (sym plan-due ∙ z))
+    made = k .plans ∙ rw (some, eq-eqb number 0 (sym plan-due ∙ z))
 
     pub starts : plan .start ≡ dataAfter (t .points)
     unfolding madePlan
@@ -180,7 +206,7 @@ module _ {w : HpsWriter} {ch : ℕ} {l r : ChannelBlock} {ld rd : List ℕ} {las
     sized = totals ∙ ap (λ (m : ℕ). sizeWith m ch (length ld) (length rd)) (counted (passes .short))
 
     pub room : (w .stream .offset + plan .size ≤ w .setup .slot) × (plan .size ≤ length lent)
-    room = has-room w args (length lent) (plan .size) (sym due-is ∙ z) sized
+    room = has-room w args (length lent) (plan .size) some (sym due-is ∙ z) sized
 
     loop-is : loopFrom (w .stream .loopat) (w .stream .offset) (loopsHere (w .setup .mode) held (t .asked) end last) ≡ loopAfter w args
     unfolding loopAfter loopDue
@@ -202,8 +228,8 @@ module _ {w : HpsWriter} {ch : ℕ} {l r : ChannelBlock} {ld rd : List ℕ} {las
     unfolding madePlan
     advances = ap (λ (p : Plan). p .after) made
 
-    pub after-is : withStream w (plan .after) ≡ afterPush w args
-    unfolding afterPush
+    pub after-is : withStream w (plan .after) ≡ afterBlock w args
+    unfolding afterBlock
     after-is =
         ap (withStream w) advances
         ∙ rw (loop-is, sym totals, next-is (passes .short), counted (passes .short), ends-at (passes .short), sized)
@@ -217,3 +243,7 @@ module _ {w : HpsWriter} {ch : ℕ} {l r : ChannelBlock} {ld rd : List ℕ} {las
         (are-taken w (k .good) end last t (k .takes) .counted) (few-points w (k .good) end last t (k .takes)) (omega (arith, totals, room .1))
         (plan .header) header-is b₁ b₂ b₃ (plan .start) starts e₁ e₂ e₃
         ∙ rw (cues-are (passes .short))
+
+  -- and where none is, it is
+  pub no-block : plan .due ≡ 0 → plan .size ≡ 0 → emptyPush args ≡ true
+  no-block z h = by-cases (emptyPush args) (λ e. e) (λ e. absurd (omega (arith, totals z e)))

@@ -52,7 +52,7 @@ fn refused(w: HpsWriter, due: u32) -> Called
     }
 }
 
-// Push: the block is to go to the record's offset. In mono the right side counts for nothing.
+// Push: the block is to go to the record's offset. In mono the right side counts for nothing. An empty push has no block: it hands out no write.
 pub fn push(
     w: HpsWriter,
     channels: usize,
@@ -93,6 +93,12 @@ pub fn push(
     );
     if plan.due != 0 {
         return refused(w, plan.due);
+    }
+    if plan.size == 0 {
+        return Called {
+            reply: Reply::NoWrite,
+            writer: w,
+        };
     }
     let header = plan.header;
     put_header(lent, 0, header);

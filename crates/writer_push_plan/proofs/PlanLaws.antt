@@ -1,7 +1,8 @@
 -- For the proof of the plan: the loop block, the sizes, and what follows where no number is due.
 use Prim.Native.Nat.{ℕ, _+_, _-_, _*_, _<_, _≤_}
-use mathlib.Core.Path.{_≡_, ap, sym, _∙_}
+use mathlib.Core.Path.{_≡_, refl, ap, sym, _∙_}
 use mathlib.Core.Bool.{Bool, true, false, not}
+use mathlib.Core.List.{[], _++_}
 use native.Mathlib.Omega.{arith}
 use borrow.Author.Tests.{lt-ltb, ltb-false, leb-false, eq-eqb, ne-eqb, eqb-true, not-false}
 use lib.Dec.{ltb, eqb, lit<}
@@ -21,9 +22,9 @@ use Rattle.writer.specs.declared.LoopAt.{LoopAt}
 use Rattle.writer.specs.declared.LoopAt.the-variants.{Nowhere, At}
 use Rattle.writer.specs.declared.ChannelBlock.{ChannelBlock}
 use Rattle.writer.proofs.GoodLaws.{short-length, looped-after}
-use Rattle.writer.specs.Loading.{dataSize, secondContext, pushOrder, stateDue, rateDue, lengthDue, dataDue, coefficientsDue, earlyDue, roomDue}
+use Rattle.writer.specs.Loading.{dataSize, secondContext, pushOrder, stateDue, noAddresses, blocksDue, rateDue, lengthDue, dataDue, coefficientsDue, earlyDue, roomDue}
 use Rattle.writer_push_refusal.proofs.DecideLaws.{group-yes, group-no}
-use Rattle.writer_push_refusal.proofs.GroupLaws.{early-numbered}
+use Rattle.writer_push_refusal.proofs.GroupLaws.{state-numbered, early-numbered}
 use Rattle.writer_assign_cues.specs.declared.Taken.{Taken}
 use Rattle.writer_push_plan.specs.PushPlan.{planDue, headerIn, noPlan, madePlan, planOf}
 use Rattle.writer.specs.declared.Setup.{Setup}
@@ -107,7 +108,7 @@ pub filled-small : (k x : ℕ) → k ≤ slotLimit → x ≡ saturated (P (8 * k
 unfolding P
 filled-small k x h e = let p = cues-end k x h e in omega arith
 
--- ---- What follows where none before 24 is due
+-- ---- What follows where none from 25 on is due before 24
 
 pub record Passing (blocks ch : ℕ) (l : ChannelBlock) (lb rb : ℕ) : Type 0 where
   pub few : blocks < blockLimit
@@ -127,29 +128,27 @@ and-rest false b h e = apart (sym h)
 same-if : (ch x y : ℕ) → eqb ch 2 and not (eqb x y) ≡ false → ch ≡ 2 → x ≡ y
 same-if ch x y h e = eqb-true x y (not-false (eqb x y) (and-rest (eqb ch 2) _ (eq-eqb ch 2 e) h))
 
-pub passing : (n : ℕ) (last : Bool) (own blocks : ℕ) (f g : ChannelBlock) (ch : ℕ) (l r : ChannelBlock) (lb rb : ℕ)
-    → n ≡ firstDue (earlyDue last own blocks f g ch l r lb rb) → n ≡ 0 → Passing blocks ch l lb rb
-unfolding earlyDue stateDue rateDue lengthDue dataDue coefficientsDue
-passing n last own blocks f g ch l r lb rb is z =
-    let h₁ = none-due 26 _ _ (lit< tt) (sym is ∙ z) in
-    let h₂ = none-due 29 _ _ (lit< tt) (h₁ .1) in
-    let h₃ = none-due 25 _ _ (lit< tt) (h₂ .1) in
-    let h₄ = none-due 15 _ _ (lit< tt) (h₃ .1) in
-    let h₅ = none-due 22 _ _ (lit< tt) (h₄ .1) in
-    let h₆ = none-due 9 _ _ (lit< tt) (h₅ .1) in
-    let h₇ = none-due 12 _ _ (lit< tt) (h₆ .1) in
-    let h₈ = none-due 10 _ _ (lit< tt) (h₇ .1) in
-    let h₉ = none-due 13 _ _ (lit< tt) (h₈ .1) in
-    let h₁₀ = none-due 11 _ _ (lit< tt) (h₉ .1) in
-    let bytes = or-false _ _ (h₁₀ .0) in
-    let short : l .length ≤ lengthLimit = short-length (l .length) ch (ltb-false _ _ (h₉ .0)) in
+pub passing : (n blocks : ℕ) (f g : ChannelBlock) (ch : ℕ) (l r : ChannelBlock) (lb rb : ℕ)
+    → n ≡ firstDue (earlyDue blocks f g ch l r lb rb) → n ≡ 0 → Passing blocks ch l lb rb
+unfolding earlyDue blocksDue rateDue lengthDue dataDue coefficientsDue
+passing n blocks f g ch l r lb rb is z =
+    let h₁ = none-due 25 _ _ (lit< tt) (sym is ∙ z) in
+    let h₂ = none-due 15 _ _ (lit< tt) (h₁ .1) in
+    let h₃ = none-due 22 _ _ (lit< tt) (h₂ .1) in
+    let h₄ = none-due 9 _ _ (lit< tt) (h₃ .1) in
+    let h₅ = none-due 12 _ _ (lit< tt) (h₄ .1) in
+    let h₆ = none-due 10 _ _ (lit< tt) (h₅ .1) in
+    let h₇ = none-due 13 _ _ (lit< tt) (h₆ .1) in
+    let h₈ = none-due 11 _ _ (lit< tt) (h₇ .1) in
+    let bytes = or-false _ _ (h₈ .0) in
+    let short : l .length ≤ lengthLimit = short-length (l .length) ch (ltb-false _ _ (h₇ .0)) in
     record {
-      few = leb-false blockLimit blocks (h₃ .0);
-      long = ltb-false (l .length) 2 (h₈ .0);
+      few = leb-false blockLimit blocks (h₁ .0);
+      long = ltb-false (l .length) 2 (h₆ .0);
       short = short;
       left = omega (arith, eqb-true lb (adpcmBytes (l .length)) (not-false _ (bytes .0)), half (l .length) short);
       right = λ e.
-          let same = same-if ch (l .length) (r .length) (h₇ .0) e in
+          let same = same-if ch (l .length) (r .length) (h₅ .0) e in
           omega (arith, same-if ch rb (adpcmBytes (r .length)) (bytes .1) e, ap adpcmBytes same, half (l .length) short);
     }
 
@@ -169,43 +168,62 @@ fits-room slot offset size lent m is z =
     (ltb-false slot (offset + size) (h .0), ltb-false lent size (g .0))
 
 module _ (u : Setup) (s : Stream) (t : Taken) (held : Bool) (end ch : ℕ) (l r : ChannelBlock) (lb rb : ℕ) (last : Bool) (lent : ℕ) where
-  refused-plan : (n : ℕ) → n ≡ planDue u s (t .points) ch l r lb rb lent → (n ≡ 0 → ⊥) → noPlan n s ≡ planOf u s t held end ch l r lb rb last lent
+  abbrev empty : Bool
+  empty = noAddresses ch (l .length) (r .length) lb rb last
+
+  refused-plan : (n : ℕ) → n ≡ planDue u s (t .points) ch l r lb rb last lent → (n ≡ 0 → ⊥) → noPlan n s ≡ planOf u s t held end ch l r lb rb last lent
   unfolding planOf
-  refused-plan n is h = rw (ne-eqb (planDue u s (t .points) ch l r lb rb lent) 0 (λ z. h (is ∙ z)), ← is)
+  refused-plan n is h =
+      by-cases empty (λ q. rw (q, ← is)) (λ q. rw (q, ne-eqb (planDue u s (t .points) ch l r lb rb last lent) 0 (λ z. h (is ∙ z)), ← is))
 
-  module _ (n : ℕ) (is : n ≡ firstDue (earlyDue (s .last) (u .channels) (s .blocks) (s .left) (s .right) ch l r lb rb)) where
-    pub plan-early : (n ≡ 0 → ⊥) → (p : Plan) → p ≡ noPlan n s → p ≡ planOf u s t held end ch l r lb rb last lent
-    unfolding planDue pushOrder
-    plan-early h p e = e ∙ refused-plan n (group-yes n _ _ is h) h
+  pub plan-state : (n : ℕ) → n ≡ firstDue (stateDue (s .last) (u .channels) ch) → (n ≡ 0 → ⊥) → (p : Plan) → p ≡ noPlan n s → p ≡ planOf u s t held end ch l r lb rb last lent
+  unfolding planDue pushOrder
+  plan-state n is h p e = e ∙ refused-plan n (group-yes n _ _ is h) h
 
-    -- more points and ranges than the slot has bytes
-    pub plan-many : n ≡ 0 → u .slot < 8 * t .points → (p : Plan) → p ≡ noPlan 24 s → p ≡ planOf u s t held end ch l r lb rb last lent
-    unfolding planDue pushOrder roomDue firstDue
-    plan-many none h p e =
-        let over : u .slot < s .offset + (dataAfter (t .points) + dataSize ch lb rb) = omega (arith, P-above (8 * t .points)) in
-        e ∙ refused-plan 24 (group-no n 24 _ _ (early-numbered _ _ _ _ _ _ _ _ _ _) is none (rw (lt-ltb (u .slot) _ over))) (λ z. omega arith)
+  -- what the groups after 29 give
+  module _ (v : ℕ) (state : v ≡ firstDue (stateDue (s .last) (u .channels) ch)) (clear : v ≡ 0) where
+    pub plan-empty : empty ≡ true → (p : Plan) → p ≡ noPlan 0 s → p ≡ planOf u s t held end ch l r lb rb last lent
+    unfolding planOf planDue pushOrder firstDue
+    plan-empty q p e =
+        e ∙ ap (λ (n : ℕ). noPlan n s) (group-no v 0 _ [] (state-numbered _ _ _) state clear refl) ∙ rw q
 
-    module _ (none : n ≡ 0) (m size : ℕ) (sized : size ≡ dataAfter (t .points) + dataSize ch lb rb) (room : m ≡ firstDue (roomDue (u .slot) (s .offset) size lent)) where
-      room-is : m ≡ planDue u s (t .points) ch l r lb rb lent
+    module _ (some : empty ≡ false) where
+      rest : (n : ℕ) → n ≡ firstDue (earlyDue (s .blocks) (s .left) (s .right) ch l r lb rb ++ roomDue (u .slot) (s .offset) (dataAfter (t .points) + dataSize ch lb rb) lent)
+          → n ≡ planDue u s (t .points) ch l r lb rb last lent
       unfolding planDue pushOrder
-      room-is = group-no n m _ _ (early-numbered _ _ _ _ _ _ _ _ _ _) is none (room ∙ ap (λ (k : ℕ). firstDue (roomDue (u .slot) (s .offset) k lent)) sized)
+      rest n is = group-no v n _ _ (state-numbered _ _ _) state clear (rw some is)
 
-      pub plan-room : (m ≡ 0 → ⊥) → (p : Plan) → p ≡ noPlan m s → p ≡ planOf u s t held end ch l r lb rb last lent
-      plan-room h p e = e ∙ refused-plan m room-is h
+      module _ (n : ℕ) (is : n ≡ firstDue (earlyDue (s .blocks) (s .left) (s .right) ch l r lb rb)) where
+        pub plan-early : (n ≡ 0 → ⊥) → (p : Plan) → p ≡ noPlan n s → p ≡ planOf u s t held end ch l r lb rb last lent
+        plan-early h p e = e ∙ refused-plan n (rest n (group-yes n _ _ is h)) h
 
-      module _ (fits : m ≡ 0) (here : Bool) (loops : here ≡ loopsHere (u .mode) held (t .asked) end last)
-          (loopat : LoopAt) (looped : loopat ≡ loopFrom (s .loopat) (s .offset) here) where
-        pub plan-made : (bytes start next : ℕ) (other : FrameContext) (after : Stream) → bytes ≡ dataSize ch lb rb → start ≡ dataAfter (t .points)
-            → next ≡ nextOffset last loopat (s .offset + size) → other ≡ secondContext ch r
-            → after ≡ advanced s (t .to) (t .points) end size loopat l r last
-            → record {
-              due = 0;
-              header = record { size = bytes; «end_address» = l .length - 1; «next_offset» = next; left = l .context; right = other; cues = t .points };
-              start = start;
-              size = size;
-              after = after;
-            }
-            ≡ planOf u s t held end ch l r lb rb last lent
-        unfolding planOf madePlan headerIn
-        plan-made bytes start next other after ed es en eo ea =
-            rw (eq-eqb (planDue u s (t .points) ch l r lb rb lent) 0 (sym room-is ∙ fits), ed, es, en, eo, ea, looped, loops, sized)
+        -- more points and ranges than the slot has bytes
+        pub plan-many : n ≡ 0 → u .slot < 8 * t .points → (p : Plan) → p ≡ noPlan 24 s → p ≡ planOf u s t held end ch l r lb rb last lent
+        unfolding roomDue firstDue
+        plan-many none h p e =
+            let over : u .slot < s .offset + (dataAfter (t .points) + dataSize ch lb rb) = omega (arith, P-above (8 * t .points)) in
+            e ∙ refused-plan 24 (rest 24 (group-no n 24 _ _ (early-numbered _ _ _ _ _ _ _ _) is none (rw (lt-ltb (u .slot) _ over)))) (λ z. omega arith)
+
+        module _ (none : n ≡ 0) (m size : ℕ) (sized : size ≡ dataAfter (t .points) + dataSize ch lb rb) (room : m ≡ firstDue (roomDue (u .slot) (s .offset) size lent)) where
+          room-is : m ≡ planDue u s (t .points) ch l r lb rb last lent
+          room-is = rest m (group-no n m _ _ (early-numbered _ _ _ _ _ _ _ _) is none (room ∙ ap (λ (k : ℕ). firstDue (roomDue (u .slot) (s .offset) k lent)) sized))
+
+          pub plan-room : (m ≡ 0 → ⊥) → (p : Plan) → p ≡ noPlan m s → p ≡ planOf u s t held end ch l r lb rb last lent
+          plan-room h p e = e ∙ refused-plan m room-is h
+
+          module _ (fits : m ≡ 0) (here : Bool) (loops : here ≡ loopsHere (u .mode) held (t .asked) end last)
+              (loopat : LoopAt) (looped : loopat ≡ loopFrom (s .loopat) (s .offset) here) where
+            pub plan-made : (bytes start next : ℕ) (other : FrameContext) (after : Stream) → bytes ≡ dataSize ch lb rb → start ≡ dataAfter (t .points)
+                → next ≡ nextOffset last loopat (s .offset + size) → other ≡ secondContext ch r
+                → after ≡ advanced s (t .to) (t .points) end size loopat l r last
+                → record {
+                  due = 0;
+                  header = record { size = bytes; «end_address» = l .length - 1; «next_offset» = next; left = l .context; right = other; cues = t .points };
+                  start = start;
+                  size = size;
+                  after = after;
+                }
+                ≡ planOf u s t held end ch l r lb rb last lent
+            unfolding planOf madePlan headerIn
+            plan-made bytes start next other after ed es en eo ea =
+                rw (some, eq-eqb (planDue u s (t .points) ch l r lb rb last lent) 0 (sym room-is ∙ fits), ed, es, en, eo, ea, looped, loops, sized)

@@ -6,7 +6,7 @@ use Rattle.layout.specs.Choice.{pick}
 use Rattle.layout.specs.Records.{zeroContext, dataAfter, headerWith}
 use Rattle.layout.specs.Refusals.{firstDue}
 use Rattle.layout.specs.declared.BlockHeader.{BlockHeader}
-use Rattle.writer.specs.Loading.{dataSize, sizeWith, secondContext, pushOrder}
+use Rattle.writer.specs.Loading.{dataSize, sizeWith, secondContext, noAddresses, pushOrder}
 use Rattle.writer.specs.Calls.{stateWith}
 use Rattle.writer.specs.Push.{loopsHere, loopFrom, nextOffset, advanced}
 use Rattle.writer.specs.declared.ChannelBlock.{ChannelBlock}
@@ -16,14 +16,14 @@ use Rattle.writer_assign_cues.specs.declared.Taken.{Taken}
 use Rattle.writer_push_plan.specs.declared.Plan.{Plan}
 
 -- The first number due of a push whose block has so many points and ranges.
-unfoldable pub planDue : Setup → Stream → (points channels : ℕ) (left right : ChannelBlock) (leftBytes rightBytes lent : ℕ) → ℕ
-planDue u s k ch l r lb rb lent = firstDue (pushOrder (stateWith u s) k ch l r lb rb lent)
+unfoldable pub planDue : Setup → Stream → (points channels : ℕ) (left right : ChannelBlock) (leftBytes rightBytes : ℕ) (last : Bool) (lent : ℕ) → ℕ
+planDue u s k ch l r lb rb last lent = firstDue (pushOrder (stateWith u s) k ch l r lb rb last lent)
 
 -- The header of a block of so many points and ranges with this next offset.
 unfoldable pub headerIn : (points channels : ℕ) (left right : ChannelBlock) (leftBytes rightBytes next : ℕ) → BlockHeader
 headerIn k ch l r lb rb next = headerWith next (l .length) (l .context) (secondContext ch r) k (dataSize ch lb rb)
 
--- Refused with this number: the stream stays.
+-- No block to write, of a push refused with this number or of an empty one: the stream stays.
 abbrev pub noPlan : ℕ → Stream → Plan
 noPlan n s =
     record {
@@ -47,8 +47,8 @@ madePlan u s t held end ch l r lb rb last =
       after = advanced s (t .to) (t .points) end size loopat l r last;
     }
 
--- The plan: refused with the first number due, or made.
+-- The plan: refused with the first number due, or made; of an empty push there is none.
 unfoldable pub planOf : Setup → Stream → Taken → (held : Bool) (end channels : ℕ) (left right : ChannelBlock) (leftBytes rightBytes : ℕ) (last : Bool) (lent : ℕ) → Plan
 planOf u s t held end ch l r lb rb last lent =
-    let n = planDue u s (t .points) ch l r lb rb lent in
-    pick (eqb n 0) (madePlan u s t held end ch l r lb rb last) (noPlan n s)
+    let n = planDue u s (t .points) ch l r lb rb last lent in
+    pick (noAddresses ch (l .length) (r .length) lb rb last) (noPlan n s) (pick (eqb n 0) (madePlan u s t held end ch l r lb rb last) (noPlan n s))

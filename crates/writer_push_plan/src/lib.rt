@@ -14,7 +14,9 @@ use writer::Setup;
 use writer::Stream;
 use writer_assign_cues::Taken;
 use writer_push_refusal::early_due;
+use writer_push_refusal::no_addresses;
 use writer_push_refusal::room_due;
+use writer_push_refusal::state_due;
 ghost use mathlib.Core.Path.{_≡_};
 ghost use Prim.Native.Nat.{ℕ, _+_, _*_, _<_, _≤_, _^_};
 ghost use Rattle.layout.specs.Sizes.{saturated};
@@ -27,7 +29,8 @@ ghost use Rattle.layout.specs.Refusals.{slotLimit, monoLimit, blockLimit};
 ghost use lib.Dec.{eqb};
 ghost use Rattle.layout.specs.Choice.{pick};
 
-// The number due, 0 where none is; then the block's header, where its data starts, its size, and the stream after it.
+// The number due, 0 where none is; then the block's header, where its data starts, its size, and the stream after it. The size is 0 where there is no
+// block to write: of a refused push and of an empty one.
 pub struct Plan {
     pub due: u32,
     pub header: BlockHeader,
@@ -133,6 +136,7 @@ fn next_offset(last: bool, loopat: LoopAt, end: usize) -> u32
     }
 }
 
+// No block to write: the stream stays.
 fn no_plan(due: u32, s: Stream) -> Plan
     ensures { λ p. ⌜ p ≡ noPlan due s ⌝ }
 {
@@ -214,11 +218,23 @@ pub fn plan_push(
     requires { ⌜ Good (recordOf setup s) ⌝ }
     ensures { λ p. ⌜ p ≡ planOf setup s taken held end channels left right «left_bytes» «right_bytes» last lent ⌝ }
 {
+    let state = state_due(s.last, setup.channels, channels);
+    if state != 0 {
+        return no_plan(state, s);
+    }
+    if no_addresses(
+        channels,
+        left.length,
+        right.length,
+        left_bytes,
+        right_bytes,
+        last,
+    ) {
+        return no_plan(0, s);
+    }
     let first = s.left;
     let second = s.right;
     let early = early_due(
-        s.last,
-        setup.channels,
         s.blocks,
         first,
         second,

@@ -42,6 +42,19 @@ group-no x v [] es none e z q = q
 group-no x v (d ∷ ds) es (more {n = n} {t = t} m) e z q =
     by-cases t (λ p. let k : x ≡ suc n = rw p at e in absurd (omega arith)) (λ p. rw p (group-no x v ds es m (rw p at e) z q))
 
+-- the groups after one count by their first number due
+pub group-same : (ds es fs : List Due) → firstDue es ≡ firstDue fs → firstDue (ds ++ es) ≡ firstDue (ds ++ fs)
+unfolding firstDue
+group-same [] es fs h = h
+group-same (d ∷ ds) es fs h = by-cases (d .holds) (λ q. rw q) (λ q. rw q (group-same ds es fs h))
+
+-- and none of theirs is due where none is at all
+pub group-none : (ds es : List Due) → Numbered ds → firstDue (ds ++ es) ≡ 0 → firstDue es ≡ 0
+unfolding firstDue
+group-none [] es none h = h
+group-none (d ∷ ds) es (more {n = n} {t = t} m) h =
+    by-cases t (λ p. let k : suc n ≡ 0 = rw p at h in absurd (omega arith)) (λ p. group-none ds es m (rw p at h))
+
 -- ---- Tests
 
 -- one that a call made

@@ -1,3 +1,4 @@
 pub mod DecideLaws
 pub mod GroupLaws
+pub mod EmptyLaws
 pub mod CoefficientLaws

@@ -5,11 +5,11 @@ use layout_sizes::size_limit;
 use writer::ChannelBlock;
 ghost use mathlib.Core.Path.{_≡_};
 ghost use Rattle.layout.specs.Refusals.{firstDue};
-ghost use Rattle.writer.specs.Loading.{differ, changed, stateDue, rateDue, lengthDue, sameZ, dataDue, coefficientsDue, earlyDue, roomDue};
+ghost use Rattle.writer.specs.Loading.{differ, changed, stateDue, zeroInEach, noAddresses, blocksDue, rateDue, lengthDue, sameZ, dataDue, coefficientsDue, earlyDue, roomDue};
 
-// 26, 29, 25
-fn state_due(last: bool, own: usize, blocks: usize, channels: usize) -> u32
-    ensures { λ r. ⌜ r ≡ firstDue (stateDue last own blocks channels) ⌝ }
+// 26, 29
+pub fn state_due(last: bool, own: usize, channels: usize) -> u32
+    ensures { λ r. ⌜ r ≡ firstDue (stateDue last own channels) ⌝ }
 {
     if last {
         return 26;
@@ -17,6 +17,46 @@ fn state_due(last: bool, own: usize, blocks: usize, channels: usize) -> u32
     if channels != own {
         return 29;
     }
+    0
+}
+
+// 0 in every channel: in mono the second number is not looked at.
+fn zero_in_each(channels: usize, left: usize, right: usize) -> bool
+    ensures { λ r. ⌜ r ≡ zeroInEach channels left right ⌝ }
+{
+    if left != 0 {
+        return false;
+    }
+    if channels != 2 {
+        return true;
+    }
+    right == 0
+}
+
+// A push of length 0 in every channel, with no data and without the last mark: nothing is to be done.
+pub fn no_addresses(
+    channels: usize,
+    left: usize,
+    right: usize,
+    left_bytes: usize,
+    right_bytes: usize,
+    last: bool,
+) -> bool
+    ensures { λ r. ⌜ r ≡ noAddresses channels left right «left_bytes» «right_bytes» last ⌝ }
+{
+    if last {
+        return false;
+    }
+    if zero_in_each(channels, left, right) {
+        return zero_in_each(channels, left_bytes, right_bytes);
+    }
+    false
+}
+
+// 25
+fn blocks_due(blocks: usize) -> u32
+    ensures { λ r. ⌜ r ≡ firstDue (blocksDue blocks) ⌝ }
+{
     if blocks >= BLOCK_LIMIT {
         return 25;
     }
@@ -138,10 +178,8 @@ fn coefficients_due(
     23
 }
 
-// All before 24: by what the record keeps, the first block's sides among it, and the push.
+// All from 25 on and before 24: by what the record keeps, the first block's sides among it, and the push.
 pub fn early_due(
-    last: bool,
-    own: usize,
     blocks: usize,
     first: ChannelBlock,
     second: ChannelBlock,
@@ -151,11 +189,11 @@ pub fn early_due(
     left_bytes: usize,
     right_bytes: usize,
 ) -> u32
-    ensures { λ r. ⌜ r ≡ firstDue (earlyDue last own blocks first second channels left right «left_bytes» «right_bytes») ⌝ }
+    ensures { λ r. ⌜ r ≡ firstDue (earlyDue blocks first second channels left right «left_bytes» «right_bytes») ⌝ }
 {
-    let state = state_due(last, own, blocks, channels);
-    if state != 0 {
-        return state;
+    let count = blocks_due(blocks);
+    if count != 0 {
+        return count;
     }
     let rate = rate_due(blocks, first.rate, channels, left.rate, right.rate);
     if rate != 0 {

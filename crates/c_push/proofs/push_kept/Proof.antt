@@ -7,7 +7,7 @@ use lib.Seq.{slice}
 use borrow.Author.Tests.{ne-eqb}
 use Rattle.writer.specs.Loading.{Push, anyLoop, pushArgs}
 use Rattle.writer.specs.Calls.{pushOf}
-use Rattle.c_record.specs.Fields.{setupOf, streamOf, fieldsWith}
+use Rattle.c_record.specs.Fields.{setupOf, streamOf, fieldsOf, fieldsWith}
 use Rattle.c_record.specs.declared.Fields.{Fields}
 use Rattle.writer.specs.Push.{loopsHere, loopFrom}
 use Rattle.layout.specs.Sizes.{saturated}
@@ -19,8 +19,8 @@ use Rattle.c_record.specs.KeptSides.{tableIn, cuesAt}
 use Rattle.c_record.specs.KeptWriter.{streamIn, writerIn, takenIn, heldIn}
 use Rattle.c_record.proofs.KeptLaws.{kept-good, loop-same}
 use Rattle.writer.proofs.GoodLaws.{parts-good}
-use Rattle.writer_push.proofs.PushLaws.{push-refused, push-accepted, to-within, are-taken, Worked, due-is, totals, sized, room, bytes-are}
-use Rattle.c_loading.specs.KeptLoading.{callIn}
+use Rattle.writer_push.proofs.PushLaws.{push-refused, push-nothing, push-accepted, to-within, are-taken, Worked, due-is, some-block, no-block, totals, sized, room, bytes-are}
+use Rattle.c_loading.specs.KeptLoading.{callIn, whereWritten}
 use Rattle.writer.specs.declared.Called.{Called}
 use Rattle.c_loading.proofs.CallLaws.{leaves, no-record, on-record}
 use Rattle.c_record_put.specs.KeptRecord.{pushedBytes}
@@ -162,56 +162,75 @@ returns-2 c =
     let t = ne-eqb _ 0 (c .before .if2 .taken) in
     (i ∙ on-record k (pushOf (writerIn k) (pushed s) (s .args .lent .now)) (some e) _ (ap (λ (x : Called). callIn (x .reply)) (q .0)), leaves _ _ _ _ i t, leaves _ _ _ _ i t, leaves _ _ _ _ i t)
 
-put-taken-kept-requires : tie.Need-put-taken-kept-requires
-put-taken-kept-requires c κs =
-    let d = c .before .before .before .before .before .before .before in
-    let p = d .before .before in
-    let e = planned p in
-    let k = start e .args .kept .now in
-    let g = kept-good k in
-    let w = worked p in (
-      (rw (stream e) (g .few), to-within (writerIn k) g _ _ _ (w .takes), rw (stream e) (omega (arith, g .named, g .placed, g .few))),
-      (rw (stream e) (are-taken (writerIn k) g _ _ _ (w .takes)), omega (arith, totals w (d .if2 .left), room w (d .if2 .left) .1)),
-    )
-
-put-pushed-requires : tie.Need-put-pushed-requires
-put-pushed-requires c κs =
-    let e = planned (c .before .before .before .before .before .before .before .before .before .before .before .before .before .before .before .before .before .before .before) in
-    omega (arith, holds (start e .args .kept .now) (some e) .room)
-
-same-length-4 : tie.Need-same-length-4
-same-length-4 c =
-    let d = c .before .before .before .before .before .before .before in
-    let t = d .before .before .before .before in
-    let h = t .before .before .before .before .before in
-    search (d, t, h, needs)
-
+-- an empty push
 returns-3 : tie.Need-returns-3
 returns-3 c =
-    let d = c .before .before .before .before .before .before .before .before .before .before .before .before .before .before .before .before .before .before .before .before in
+    let d = c .before .before in
     let p = d .before .before in
     let e = planned p in
     let s = start e in
     let k = s .args .kept .now in
     let w = worked p in
     let z = d .if2 .left in
+    let q = push-nothing (writerIn k) (pushed s) (s .args .lent .now) _ (due-is w) z (no-block w z (c .if3 .taken)) in
+    let r = on-record k (pushOf (writerIn k) (pushed s) (s .args .lent .now)) (some e) _ (ap (λ (x : Called). callIn (x .reply)) (q .0)) in
+    (r, q .1, ap (λ (x : Called). whereWritten (x .reply) (putAt k 0 (pushedBytes (fieldsOf (x .writer)))) k) (q .0), ap (λ (x : Called). x .writer) (q .0))
+
+put-taken-kept-requires : tie.Need-put-taken-kept-requires
+put-taken-kept-requires c κs =
+    let f = c .before .before .before .before .before .before .before in
+    let d = f .before .before in
+    let p = d .before .before in
+    let n = some-block (worked p) (f .if3 .left) in
+    let e = planned p in
+    let k = start e .args .kept .now in
+    let g = kept-good k in
+    let w = worked p in (
+      (rw (stream e) (g .few), to-within (writerIn k) g _ _ _ (w .takes), rw (stream e) (omega (arith, g .named, g .placed, g .few))),
+      (rw (stream e) (are-taken (writerIn k) g _ _ _ (w .takes)), omega (arith, totals w (d .if2 .left) n, room w (d .if2 .left) n .1)),
+    )
+
+put-pushed-requires : tie.Need-put-pushed-requires
+put-pushed-requires c κs =
+    let e = planned (c .before .before .before .before .before .before .before .before .before .before .before .before .before .before .before .before .before .before .before .before .before) in
+    omega (arith, holds (start e .args .kept .now) (some e) .room)
+
+same-length-5 : tie.Need-same-length-5
+same-length-5 c =
+    let d = c .before .before .before .before .before .before .before in
+    let t = d .before .before .before .before in
+    let h = t .before .before .before .before .before in
+    search (d, t, h, needs)
+
+returns-4 : tie.Need-returns-4
+returns-4 c =
+    let f = c .before .before .before .before .before .before .before .before .before .before .before .before .before .before .before .before .before .before .before .before in
+    let d = f .before .before in
+    let p = d .before .before in
+    let e = planned p in
+    let s = start e in
+    let k = s .args .kept .now in
+    let w = worked p in
+    let z = d .if2 .left in
+    let n = some-block w (f .if3 .left) in
     let after-put-data = c .before .before .before .before .before .before .before .before in
     let after-put-taken = after-put-data .before .before .before .before in
     let after-put-header = after-put-taken .before .before .before .before .before in
     let taken-to = p .before .before .before .take-kept .result .to in
     let put = after-put-taken .put-taken-kept .ensures
     ∙ ap (λ (m : Fields). putAt (after-put-header .put-header .last .0) 32 (filledBytes (m .base) (m .id) (slice (m .next) taken-to (tableIn k cuesAt (m .count))))) (stream e) in
-    let b = bytes-are w z _ _ _ (after-put-header .put-header .ensures) put (after-put-data .put-data .ensures) in
-    let q = push-accepted (writerIn k) (pushed s) (s .args .lent .now) _ (due-is w) z _ _ _ refl (sized w z) (room w z .1) b in
+    let b = bytes-are w z n _ _ _ (after-put-header .put-header .ensures) put (after-put-data .put-data .ensures) in
+    let q = push-accepted (writerIn k) (pushed s) (s .args .lent .now) _ (due-is w) z n _ _ _ refl (sized w z n) (room w z n .1) b in
     let r = on-record k (pushOf (writerIn k) (pushed s) (s .args .lent .now)) (some e) _ (ap (λ (x : Called). callIn (x .reply)) (q .0)) in
     let after = c .before .before .put-pushed .ensures
     ∙ ap (λ (m : Fields). putAt k 0 (pushedBytes m)) (c .before .before .before .before .with-stream .ensures ∙ ap (λ (m : Fields). fieldsWith m (p .plan-push .result .after)) (stream e)) in
     let long : streamIn k .channels < 18446744073709551616 = omega (arith, channels e, ap (λ (m : Fields). m .channels) (stream e)) in
-    let stays = push-stream k (some e) w z (left-fits s) (right-fits s) long in (
+    let stays = push-stream k (some e) w z n (left-fits s) (right-fits s) long in (
       ap (λ (m : Fields). record { number = 0; offset = m .offset; length = p .plan-push .result .size }) (stream e) ∙ r,
       q .1,
-      after ∙ ap (λ (m : Fields). putAt k 0 (pushedBytes m)) stays,
-      ap writerIn after ∙ push-after k (some e) w z (left-fits s) (right-fits s) long,
+      after ∙ ap (λ (m : Fields). putAt k 0 (pushedBytes m)) stays
+          ∙ ap (λ (x : Called). whereWritten (x .reply) (putAt k 0 (pushedBytes (fieldsOf (pushOf (writerIn k) (pushed s) (s .args .lent .now) .writer)))) k) (q .0),
+      ap writerIn after ∙ push-after k (some e) w z n (left-fits s) (right-fits s) long,
     )
 
 pub push-kept-spec : {M : Type 1} → statement M
@@ -231,11 +250,13 @@ push-kept-spec =
     (λ c κs. search needs)
     (λ c. search needs)
     returns-2
+    (λ c. search needs)
+    returns-3
     (λ c κs. search needs)
     put-taken-kept-requires
     (λ c κs. search needs)
     (λ c κs. search needs)
     put-pushed-requires
     (λ c. search needs)
-    same-length-4
-    returns-3)
+    same-length-5
+    returns-4)

@@ -1,28 +1,39 @@
 use Prim.Native.Nat.{_+_, _≤_}
-use mathlib.Core.Path.{_≡_, ap}
+use mathlib.Core.Path.{_≡_, ap, sym, _∙_}
+use mathlib.Core.Bool.{false}
 use native.Mathlib.Omega.{arith}
 use Rattle.layout.specs.Records.{dataAfter}
 use Rattle.layout.specs.Refusals.{lengthLimit}
-use Rattle.writer.specs.Loading.{dataSize}
-use Rattle.writer_push_plan.proofs.PlanLaws.{Passing, passing, size-small, block-small, fits-room, plan-early, plan-many, plan-room, plan-made, loop-near}
+use Rattle.writer.specs.Loading.{dataSize, noAddresses}
+use Rattle.writer_push_plan.proofs.PlanLaws.{Passing, passing, size-small, block-small, fits-room, plan-state, plan-empty, plan-early, plan-many, plan-room, plan-made, loop-near}
 use borrow.Author.Needs.{needs}
 use Rattle.writer_push_plan.proofs.plan_push.Statement.{statement}
 use Rattle.writer_push_plan.proofs.plan_push.Tie as tie
 
 -- ---- What is known at the places of the code
 
-abbrev start : tie.Else1 → tie.Start
-start c = c .before .before .before .before
+abbrev stated : tie.Else2 → tie.After-state-due
+stated c = c .before .before .before
+
+-- the push is not empty
+some : (c : tie.Else2) → let a = stated c .before .args in noAddresses (a .channels) (a .left .length) (a .right .length) (a .left-bytes) (a .right-bytes) (a .last) ≡ false
+some c = sym (c .before .no-addresses .ensures) ∙ c .if2 .left
+
+abbrev tested : tie.Else3 → tie.Else2
+tested c = c .before .before .before .before
+
+abbrev start : tie.Else3 → tie.Start
+start c = stated (tested c) .before
 
 -- none before 24 is due
-early-none : (c : tie.Else1) → Passing (start c .args .s .blocks) (start c .args .channels) (start c .args .left) (start c .args .left-bytes) (start c .args .right-bytes)
-early-none c = passing _ _ _ _ _ _ _ _ _ _ _ (c .before .early-due .ensures) (c .if1 .left)
+early-none : (c : tie.Else3) → Passing (start c .args .s .blocks) (start c .args .channels) (start c .args .left) (start c .args .left-bytes) (start c .args .right-bytes)
+early-none c = passing _ _ _ _ _ _ _ _ _ (c .before .early-due .ensures) (c .if3 .left)
 
 -- nor are there more points and ranges than a slot has bytes
-abbrev first : tie.Else2 → tie.Else1
+abbrev first : tie.Else4 → tie.Else3
 first c = c .before .before
 
-abbrev begun : tie.Else2 → tie.Start
+abbrev begun : tie.Else4 → tie.Start
 begun c = start (first c)
 
 small : (c : tie.After-data-size) → c .data-size .result ≤ lengthLimit
@@ -33,40 +44,54 @@ sized : (c : tie.After-data-start) → let s = begun (c .before .before) in
 sized c = rw (c .data-start .ensures, c .before .data-size .ensures)
 
 -- the block fits into slot and buffer
-abbrev fitted : tie.Else3 → tie.Start
+abbrev fitted : tie.Else5 → tie.Start
 fitted c = begun (c .before .before .before .before)
 
-room : (c : tie.Else3)
+room : (c : tie.Else5)
     → (fitted c .args .s .offset + (c .before .before .data-start .result + c .before .before .before .data-size .result) ≤ fitted c .args .setup .slot)
     × (c .before .before .data-start .result + c .before .before .before .data-size .result ≤ fitted c .args .lent)
-room c = fits-room _ _ _ _ _ (c .before .room-due .ensures) (c .if3 .left)
+room c = fits-room _ _ _ _ _ (c .before .room-due .ensures) (c .if5 .left)
 
 -- ---- The needs
 
-returns : tie.Need-returns
-returns c = search (plan-early, needs)
-
 returns-2 : tie.Need-returns-2
 returns-2 c =
+    let n = c .before .before in
+    let q = n .before .before in
+    let s = q .before in
+    plan-empty (s .args .setup) (s .args .s) (s .args .taken) (s .args .held) (s .args .end) (s .args .channels) (s .args .left) (s .args .right) (s .args .left-bytes) (s .args .right-bytes)
+    (s .args .last) (s .args .lent) _ (q .state-due .ensures) (n .before .if1 .left) (sym (n .no-addresses .ensures) ∙ c .before .if2 .taken) _ (c .no-plan2 .ensures)
+
+returns-3 : tie.Need-returns-3
+returns-3 c =
+    let e = c .before .before .before .before .before in
+    let s = stated e .before in
+    plan-early (s .args .setup) (s .args .s) (s .args .taken) (s .args .held) (s .args .end) (s .args .channels) (s .args .left) (s .args .right) (s .args .left-bytes) (s .args .right-bytes)
+    (s .args .last) (s .args .lent) _ (stated e .state-due .ensures) (e .before .before .if1 .left) (some e) _ (c .before .before .early-due .ensures) (c .before .if3 .taken) _ (c .no-plan3 .ensures)
+
+returns-4 : tie.Need-returns-4
+returns-4 c =
     let e = c .before .before .before in
     let s = start e in
     plan-many (s .args .setup) (s .args .s) (s .args .taken) (s .args .held) (s .args .end) (s .args .channels) (s .args .left) (s .args .right) (s .args .left-bytes) (s .args .right-bytes)
-    (s .args .last) (s .args .lent) _ (e .before .early-due .ensures) (e .if1 .left) (omega (arith, s .pre .small, c .before .if2 .taken)) _ (c .no-plan2 .ensures)
+    (s .args .last) (s .args .lent) _ (stated (tested e) .state-due .ensures) (tested e .before .before .if1 .left) (some (tested e)) _ (e .before .early-due .ensures) (e .if3 .left)
+    (omega (arith, s .pre .small, c .before .if4 .taken)) _ (c .no-plan4 .ensures)
 
 data-size-requires : tie.Need-data-size-requires
 data-size-requires c κs = let h = early-none (first c) in (h .left, h .right)
 
 add-size : tie.Need-add-size
 add-size c =
-    omega (arith, block-small _ _ _ (c .before .before .if2 .left) (small (c .before)) (ap (λ m. m + c .before .data-size .result) (c .data-start .ensures)))
+    omega (arith, block-small _ _ _ (c .before .before .if4 .left) (small (c .before)) (ap (λ m. m + c .before .data-size .result) (c .data-start .ensures)))
 
-returns-3 : tie.Need-returns-3
-returns-3 c =
+returns-5 : tie.Need-returns-5
+returns-5 c =
     let d = c .before .before .before in
     let e = first (d .before .before) in
     let s = start e in
     plan-room (s .args .setup) (s .args .s) (s .args .taken) (s .args .held) (s .args .end) (s .args .channels) (s .args .left) (s .args .right) (s .args .left-bytes) (s .args .right-bytes)
-    (s .args .last) (s .args .lent) _ (e .before .early-due .ensures) (e .if1 .left) _ _ (sized d) (c .before .before .room-due .ensures) (c .before .if3 .taken) _ (c .no-plan3 .ensures)
+    (s .args .last) (s .args .lent) _ (stated (tested e) .state-due .ensures) (tested e .before .before .if1 .left) (some (tested e)) _ (e .before .early-due .ensures) (e .if3 .left)
+    _ _ (sized d) (c .before .before .room-due .ensures) (c .before .if5 .taken) _ (c .no-plan5 .ensures)
 
 add-next-offset : tie.Need-add-next-offset
 add-next-offset c = let e = c .before .before .before in omega (arith, room e .0, fitted e .pre .small)
@@ -94,7 +119,7 @@ advance-requires c κs =
     let e = c .before .before .before .before .before .before .before .before .before .before .before in
     let h = early-none (first e) in
     let g = begun e .pre in
-    let few = e .if2 .left in (
+    let few = e .if4 .left in (
       omega (arith, g .named, g .placed, g .few, few),
       h .few,
       few,
@@ -102,15 +127,16 @@ advance-requires c κs =
       omega (arith, h .short, g .sums, g .many),
     )
 
-returns-4 : tie.Need-returns-4
-returns-4 c =
+returns-6 : tie.Need-returns-6
+returns-6 c =
     let n = c .before .before .before .before in
     let f = c .before .before .before .before .before .before in
     let d = c .before .before .before .before .before .before .before .before .before .before in
     let e = first (c .before .before .before .before .before .before .before .before .before .before .before .before) in
     let s = start e in
     plan-made (s .args .setup) (s .args .s) (s .args .taken) (s .args .held) (s .args .end) (s .args .channels) (s .args .left) (s .args .right) (s .args .left-bytes) (s .args .right-bytes)
-    (s .args .last) (s .args .lent) _ (e .before .early-due .ensures) (e .if1 .left) _ _ (sized d) (f .before .before .before .room-due .ensures) (f .before .before .if3 .left) _
+    (s .args .last) (s .args .lent) _ (stated (tested e) .state-due .ensures) (tested e .before .before .if1 .left) (some (tested e)) _ (e .before .early-due .ensures) (e .if3 .left)
+    _ _ (sized d) (f .before .before .before .room-due .ensures) (f .before .before .if5 .left) _
     (f .before .loop-due .ensures) _ (f .loop-after .ensures)
     _ _ _ _ _ (d .before .data-size .ensures) (d .data-start .ensures) (n .next-offset .ensures) (c .before .before .second-context .ensures) (c .advance .ensures)
 
@@ -120,15 +146,21 @@ plan-push-spec =
     (tie.spec
     (λ c κs. search needs)
     (λ c κs. search needs)
-    returns
+    (λ c. search (plan-state, needs))
+    (λ c κs. search needs)
     (λ c κs. search needs)
     returns-2
+    (λ c κs. search needs)
+    (λ c κs. search needs)
+    returns-3
+    (λ c κs. search needs)
+    returns-4
     data-size-requires
     (λ c κs. search needs)
     add-size
     (λ c κs. search needs)
     (λ c κs. search needs)
-    returns-3
+    returns-5
     (λ c κs. search needs)
     (λ c κs. search needs)
     add-next-offset
@@ -138,4 +170,4 @@ plan-push-spec =
     sub-last-address
     cast-end-address
     advance-requires
-    returns-4)
+    returns-6)

@@ -15,9 +15,5 @@ returns-3 : tie.Need-returns-3
 unfolding stateDue
 returns-3 c = search decide
 
-returns-4 : tie.Need-returns-4
-unfolding stateDue
-returns-4 c = search decide
-
 pub state-due-spec : {M : Type 1} → statement M
-state-due-spec = tie.close (tie.spec returns returns-2 returns-3 returns-4)
+state-due-spec = tie.close (tie.spec returns returns-2 returns-3)

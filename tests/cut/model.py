@@ -1,6 +1,6 @@
-"""Document 01 in Python, as far as `cut` and the comparison with the Rust need it: the loading calls, opening and the listing, and every moment.
+"""Documents 01 and 02 in Python, as far as `cut` and the comparison with the Rust need them: the loading calls, opening and the listing, and every moment.
 
-Written from the document's sentences alone and as plainly as they go: nothing here is taken from the Rattle code.
+Written from the documents' sentences alone and as plainly as they go: nothing here is taken from the Rattle code.
 """
 import struct
 
@@ -47,6 +47,11 @@ POINT, LOOP, RANGE = range(3)
 DISABLED, ENABLED, AUTO = range(3)
 
 
+def is_empty(channels, sides, last):
+    """A push of length 0 in every channel, with no data and without the last mark (document 02, Card 2)"""
+    return not last and all(s.length == 0 and s.data == b"" for s in sides[:channels])
+
+
 def begin_order(slot, channels, lent):
     return (3, channels not in (1, 2)), (7, slot > 16777216 or slot < 192), (14, lent < 1)
 
@@ -91,9 +96,8 @@ class Loader:
         limit = 65536 if channels == 1 else 32768
         first = self.blocks[0] if self.blocks else used
         whole = self.whole(used, last)
-        return (
-            (26, self.ended),
-            (29, channels != self.channels),
+        state = (26, self.ended), (29, channels != self.channels)
+        return state if is_empty(channels, sides, last) else state + (
             (25, len(self.blocks) == 512),
             (15, any(s.rate != one.rate for s in used)),
             (22, self.blocks != [] and one.rate != first[0].rate),
@@ -108,6 +112,8 @@ class Loader:
 
     def push(self, channels, sides, last, lent):
         first_due(*self.push_order(channels, sides, last, lent))
+        if is_empty(channels, sides, last):
+            return []
         used = sides[:channels]
         one = used[0]
         if not self.blocks:

@@ -161,6 +161,8 @@ def loading_case(oracle, loading, counts):
             counts[f"{NAMES[kind]} accepted"] += due == 0
     for one in made.refused:
         counts.add(one)
+    for theirs in made.empty:
+        counts[f"empty push {f'where the Rust has {theirs}' if theirs else 'that the Rust writes as a block'} (D9)"] += 1
     counts["finished files"] += made.file != b""
     counts["bytes of finished files"] += len(made.file)
     return case(LOADING, b"".join(struct.pack(">I", len(one)) + one for one in made.steps))

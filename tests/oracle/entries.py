@@ -1,13 +1,13 @@
 """The entries of docs/DIFFERENCES.md: inputs, the document's answers and the Rust's.
 
-The quotations are the sentences of document 01 that its answer comes from, in the section on hearing the block those of document 02.
+The quotations are the sentences of document 01 that its answer comes from; those of document 02 are named.
 """
 from dataclasses import dataclass
 from typing import Callable
 
 from inputs import END, block, chain, header, left, mono, right, stereo
-from views import (RATE, count_byte, end_address, end_addresses, ending, ending_in_mono, ending_in_two, exact_listing, first, first_channel, heard, last,
-                   like_a_file, listing, loaded, opening, reads, second_channel, size, whole)
+from views import (RATE, count_byte, end_address, end_address_and_size, end_addresses, ending, ending_in_mono, ending_in_two, exact_listing, first,
+                   first_channel, heard, last, like_a_file, listing, loaded, opening, reads, second_channel, size, whole)
 
 
 @dataclass
@@ -112,7 +112,18 @@ def loading():
              "OK, end address ffffffff, in the block ffffffff, HEAD 1 1 1 - / BLCK 0 128 4294967296 3758096384 0",
              loaded(end_addresses)),
         load("[0], with overflow checks", mono(left(0)), "10", "PANIC", ending, "checked"),
-        load("[0] [16]", mono(left(0), left(16)), "10", "OK, end address 0000000f", loaded(end_address)),
+        load("[0, 1 byte] [16]", mono(left(0, b"\0"), left(16)), "10", "OK, end address 0000000f, 256 bytes", loaded(end_address_and_size)),
+        # "A push of length 0 in every channel, with no data and without the last mark, is now accepted: it hands out no write and leaves the record alone"
+        # (document 02, Card 2)
+        load("[0] [16]", mono(left(0), left(16)), "OK, end address 0000000f, 192 bytes", "OK, end address 0000000f, 224 bytes", loaded(end_address_and_size)),
+        load("[16] [0] [16]", mono(left(16), left(0), left(16)), "OK, HEAD 1 1 2 - / BLCK 0 128 16 14 0 / BLCK 1 192 16 14 0",
+             "OK, HEAD 1 1 3 - / BLCK 0 128 16 14 0 / BLCK 1 192 4294967296 3758096384 0 / BLCK 2 224 16 14 0", loaded(listing)),
+        load("[16] [0] [16], with overflow checks", mono(left(16), left(0), left(16)), "OK", "PANIC", ending, "checked"),
+        # "so rates and coefficients aren't looked at" (document 02, Card 2)
+        load("[16] [0, rate 2] [16]", mono(left(16), left(0, rate=2), left(16)), "OK", "22", ending_in_mono),
+        load("[0, rate 0] [16]", mono(left(0, rate=0), left(16)), "OK", "9", ending),
+        load("[16] [0, coefficients 1] [16]", mono(left(16), left(0, coefficients=1), left(16)), "OK", "23", ending),
+        load("stereo, left [0], right [0, rate 2], then [16]", stereo(left(0), right(0, rate=2), left(16), right(16)), "OK", "15", ending_in_two),
     ])
     # The same sentence.
     yield Entry("D10", "a push of length 1", [

@@ -4,7 +4,7 @@ import random
 from collections import Counter
 from dataclasses import dataclass
 
-from loadings import BLOCK_LIMIT, CUE_LIMIT, Loading
+from loadings import BLOCK_LIMIT, CUE_LIMIT, EMPTY, Loading
 from orders import PUSH_ORDER, samples, together
 from pushes import WAYS, Side, ways
 
@@ -65,6 +65,7 @@ def some_places(lengths, pushes, large):
 def some_refused(channels, places):
     made = [("begin", ())] * (random.random() < 0.2) + [("cue", ())] * (random.random() < 0.3) + [("finish", ())] * (random.random() < 0.3)
     for place in places:
+        made += [(place, EMPTY)] * (place == BLOCK_LIMIT)
         for _ in range(random.choice((0, 0, 0, 1, 2, 3)) if place != BLOCK_LIMIT else 20):
             rules = some_rules(channels, place != 0)
             made.append((place, tuple(random.choice(ways(number, rules, channels)) for number in rules)))
@@ -81,7 +82,8 @@ def some_loading():
     spare = random.choice((0, 1, random.randrange(500), random.randrange(500)))
     refused = some_refused(channels, some_places(lengths, pushes, large))
     earlier = "zeros" if large else random.choice(("noise", "file", "zeros"))
-    return Loading(channels, mode, cues, some_blocks(lengths), pushes, spare, earlier, refused, random.randrange(1 << 32))
+    empty = 0 if large else random.choice((0, 0, 0.2, 1))
+    return Loading(channels, mode, cues, some_blocks(lengths), pushes, spare, earlier, refused, random.randrange(1 << 32), empty)
 
 
 # ---- One for each set of rules
@@ -143,12 +145,14 @@ def of_rules(wanted=few):
 # ---- A list
 
 def full():
-    """A full table of cues, and 512 blocks without the last mark."""
+    """A full table of cues, 512 blocks without the last mark, and empty pushes at every place; in the 512 blocks where 25 is due."""
     points = tuple((i // 2, i % 2 * 2, i % 2, i) for i in range(CUE_LIMIT))
     refused = (("begin", ()), ("cue", ()), ("finish", ()), *((i, (way,)) for i in range(2) for way in ("no room", "short buffer")))
     for channels in (1, 2):
         yield Loading(channels, 2, points, some_blocks((16, 100)), 2, 0, "noise", refused)
-    yield Loading(1, 0, (), some_blocks([2] * 513), 512, 200, "zeros", ((512, ()), (512, ("rate",)), (512, ("count",))))
+        yield Loading(channels, 1, points[:5], some_blocks((2, 16, 40)), 3, 0, "noise", (("cue", ()), ("finish", ())), channels, 1)
+        yield Loading(channels, 2, points[:5], some_blocks((16, 40)), 1, 0, "noise", ((1, ("no room",)),), channels, 1)
+    yield Loading(1, 0, (), some_blocks([2] * 513), 512, 200, "zeros", ((512, ()), *((512, EMPTY),) * 4, (512, ("rate",)), (512, ("count",))))
 
 
 def listed():

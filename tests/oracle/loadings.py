@@ -5,13 +5,16 @@ number that is due by document 01 (tests/cut/model.py). A refused push is given 
 many rules it breaks; so is a refused cue, and a stream without a block (27). The Rust must answer by its own order, and where its answer is not document
 01's the difference must be one that is listed (orders.py). Not given to it are begin, 21, 28, and a push of two channels in mono: it has no such calls.
 
+Empty pushes (document 02, Card 2) stand among the calls: the file is still the Rust's without them. Each is given to the Rust too, as one more block: it must
+answer by its own order, and what it says beside our silence is D9.
+
 A step is a call or a part of the slot; numbers are u32, big-endian. 0: 1 content, 2 begin, 3 cue, 4 push, 5 finish, 6 the slot must have these bytes.
 4: the number of the refusal, or 0. 8: the slot's length; of content and bytes their offset. 28: of how many bytes the lent buffer is. Then, by kind:
   content, bytes  12 how many, 32 the bytes
   begin           12 channels, 16 mode (0 Disabled, 1 Enabled, 2 Auto)
   cue             12 kind (0 Point, 1 Loop, 2 Range), 16 start (u64), 32 name, 36 the range's length (u64)
   push            12 channels, 16 last, 20 and 24 how many bytes of data, 32 the left side: rate, length (u64), 16 coefficients, gain and context (52
-                  bytes), and the data; then the right side, if there are two channels
+                  bytes), and the data; then the right side, if there are two channels or the push is empty
   finish          12 the finished length
 """
 import itertools
@@ -19,14 +22,15 @@ import random
 import struct
 from dataclasses import dataclass, replace
 
-from orders import LISTED, Loader, begin_order, broken, first_of, rust_cue, rust_push, up
-from pushes import LENT, Push, refused_push
+from orders import LISTED, Loader, begin_order, broken, first_of, is_empty, rust_cue, rust_push, up
+from pushes import LENT, Push, empty_push, refused_push
 
 MODES = ("disabled", "enabled", "auto")
 KINDS = ("point", "loop", "range")
 NAMES = ("", "content", "begin", "cue", "push", "finish", "bytes")
 CONTENT, BEGIN, CUE, PUSH, FINISH, BYTES = range(1, 7)
 CUE_LIMIT, BLOCK_LIMIT = 128, 512
+EMPTY = ("empty",)
 
 
 @dataclass(frozen=True)
@@ -38,8 +42,10 @@ class Loading:
     pushes: int  # how many blocks are pushed; if all are, the last is marked and finish called
     spare: int  # how many bytes the slot has beyond the last block that is pushed
     earlier: str  # "noise", "file" or "zeros"
-    refused: tuple = ()  # where and what: (place, names of WAYS) before push `place`, after the last ("last") or after finish ("finished"); or (call, ())
-    seed: int = 0  # of the noise
+    # where and what: (place, names of WAYS or EMPTY) before push `place`, after the last ("last") or after finish ("finished"); or (call, ())
+    refused: tuple = ()
+    seed: int = 0  # of the noise and of the empty pushes
+    empty: float = 0  # how often an empty push stands before a call: 1 is before each, and after the last
 
 
 class Disagreement(Exception):
@@ -150,6 +156,7 @@ class Calls:
     def __init__(self, oracle, loading, slot):
         self.oracle, self.loading, self.slot = oracle, loading, slot
         self.made, self.refused, self.loader = [], [], None
+        self.empty, self.draw = [], random.Random(loading.seed)  # the Rust's answers to the empty pushes that are accepted
 
     def note(self, call, order, theirs=None):
         if first_of(order):
@@ -163,7 +170,13 @@ class Calls:
             self.loader = Loader(slot, channels, mode, lent)
         self.made.append(step(BEGIN, first_of(order), slot, (12, words(channels, mode)), lent=lent))
 
+    def nothing(self):
+        """Now and then an empty push."""
+        if self.draw.random() < self.loading.empty:
+            self.pushed(empty_push(self.loading.channels, self.loading.blocks[0], self.draw))
+
     def cue(self, start, kind, length, name):
+        self.nothing()
         order = self.loader.cue_order(start, kind, length, name)
         due, theirs = first_of(order), None
         if due == 0:
@@ -177,22 +190,28 @@ class Calls:
         self.made.append(step(CUE, due, self.slot, *parts))
 
     def push(self, one):
+        self.nothing()
+        self.pushed(one)
+
+    def pushed(self, one):
         order = self.loader.push_order(*one.arguments())
+        empty = is_empty(*one.arguments()[:3])
         due, theirs = first_of(order), None
+        if (due or empty) and one.channels in (1, self.loading.channels):
+            theirs = self.asked(one, due)
         if due == 0:
             self.loader.push(*one.arguments())
-        elif one.channels in (1, self.loading.channels):
-            theirs = self.asked(one, due)
+            self.empty += [theirs] * empty
         self.note("push", order, theirs)
         sides = one.left.packed() + one.left.data
         sizes = len(one.left.data), 0
-        if one.channels == 2:
+        if one.channels == 2 or empty:
             sides += one.right.packed() + one.right.data
             sizes = len(one.left.data), len(one.right.data)
         self.made.append(step(PUSH, due, self.slot, (12, words(one.channels, one.last, *sizes)), (32, sides), lent=one.lent))
 
     def asked(self, one, due):
-        """The Rust's answer to a refused push, after the blocks before it."""
+        """The Rust's answer to a push that is refused or empty, after the blocks before it."""
         channels = self.loading.channels
         right = one.right if one.channels == channels else None
         first = tuple(self.loader.blocks[0]) if self.loader.blocks else ()
@@ -202,6 +221,7 @@ class Calls:
         return theirs
 
     def finish(self, lent=LENT):
+        self.nothing()
         order = self.loader.finish_order(lent)
         due = first_of(order)
         if due == 0:
@@ -219,8 +239,12 @@ def refused_at(loading, place):
 
 
 def refused_pushes(calls, place, one):
+    """Also an empty push, where it is named."""
     for names in refused_at(calls.loading, place):
-        calls.push(refused_push(names, one, calls.loader))
+        if names == EMPTY:
+            calls.pushed(empty_push(calls.loading.channels, calls.loading.blocks[0], calls.draw))
+        else:
+            calls.push(refused_push(names, one, calls.loader))
 
 
 def refused_cues(calls, others=()):
@@ -295,6 +319,7 @@ class Made:
     file: bytes  # the finished file, if there is one
     ends: list  # where the blocks end
     refused: list
+    empty: list  # the Rust's answers to the empty pushes that are accepted
 
 
 def made_of(oracle, loading):
@@ -315,8 +340,10 @@ def made_of(oracle, loading):
     make_pushes(calls, starts)
     if loading.pushes == len(loading.blocks):
         make_end(calls)
-        return Made(calls.made + bytes_steps(file + earlier[len(file):], ends), file, ends, calls.refused)
+        calls.nothing()
+        return Made(calls.made + bytes_steps(file + earlier[len(file):], ends), file, ends, calls.refused, calls.empty)
     # No finish: a header of earlier content but for byte 15, then the Rust's blocks up to the last pushed.
     refused_finishes(calls)
+    calls.nothing()
     slot_now = earlier[:15] + b"\0" + earlier[16:128] + file[128:end] + earlier[end:]
-    return Made(calls.made + bytes_steps(slot_now, ends), b"", ends, calls.refused)
+    return Made(calls.made + bytes_steps(slot_now, ends), b"", ends, calls.refused, calls.empty)

@@ -8,7 +8,7 @@ import os
 import sys
 
 sys.path.append(os.path.join(os.path.dirname(os.path.abspath(__file__)), "..", "cut"))
-from model import Loader, begin_order, bytes_for, samples, up
+from model import Loader, begin_order, bytes_for, is_empty, samples, up
 
 PUSH_ORDER = (26, 29, 25, 15, 22, 9, 12, 10, 13, 11, 23, 24, 14)
 
@@ -45,6 +45,7 @@ def rust_cue(kind, length):
 
 # Document 01's number and the Rust's, 0 where it accepts: the entry of docs/DIFFERENCES.md.
 LISTED = {
+    **{(0, number): "D9" for number in (15, 22, 9, 23)},
     (10, 0): "D9, D10", (11, 0): "D11", (8, 0): "D12", (8, "PANIC"): "D13", (20, 0): "D14", (25, 0): "D15", (29, 12): "D17",
     (14, 0): "D18", (24, 0): "D18", (26, 0): "D18",
     (13, 0): "D21", (13, 23): "D21", (11, 23): "D22", (10, 23): "D23",

@@ -55,7 +55,7 @@ LONG += [2**63 + i for i in (-1, 0, 2, 19)] + [3 * 2**62 + 2, 2**64 - 2, 2**64 -
 
 # How each rule can be broken. 25 and 26 go by where the push is.
 WAYS = {
-    29: ("count",), 15: ("right rate",), 22: ("rate",), 9: ("rate 0",), 12: ("right length",), 10: ("length 0", "length 1"),
+    29: ("count",), 15: ("right rate",), 22: ("rate",), 9: ("rate 0",), 12: ("right length",), 10: ("length 1", "length 0 and data", "length 0 and the mark"),
     13: (*(f"length {n}" for n in LONG), "one too long"), 11: ("data longer", "data shorter", "no data"), 23: ("coefficients",),
     24: ("no room",), 14: ("short buffer", "no buffer"),
 }
@@ -103,6 +103,10 @@ def changed(name, one, loader):
         return replace(one, lent=0)
     if name in ("rate", "rate 0"):
         return replace(one, left=other_side(name, one.left), right=other_side(name, one.right))
+    if name == "length 0 and data":
+        return replace(one, left=replace(one.left, length=0, data=b"\x5a" * 3), right=replace(one.right, length=0, data=b""))
+    if name == "length 0 and the mark":
+        return replace(one, left=resized(one.left, 0), right=resized(one.right, 0), last=True)
     longer = {"one too long": 131073 if one.channels == 1 else 65537, "no room": max(2, 2 * (loader.slot - loader.at - 32) + 2)}
     if name in longer or name.startswith("length "):
         length = longer[name] if name in longer else int(name[7:])
@@ -124,4 +128,23 @@ def ways(number, numbers, channels):
     """The ways to break a rule in a push that breaks these, in a loading of so many channels."""
     stereo = channels == 2 and 29 not in numbers
     made = WAYS[number] + (RIGHT_WAYS.get(number, ()) if stereo else ()) + (COUNT_WAYS.get(number, ()) if {*numbers} <= {26, 29, 25} else ())
+    if number == 11 and 10 in numbers:
+        return tuple(way for way in made if way != "no data")  # length 0 and no data may be no rule broken
     return tuple(way for way in made if "longer" in way) if number == 11 and 24 in numbers else made
+
+
+# ---- Empty pushes
+
+def empty_push(channels, first, draw):
+    """Of length 0, without data and mark; the rates and coefficients are by lot those of the first block's sides or others, the lent buffer is any, in mono the
+    right side too, and now and then the channel count is another."""
+    def side(own):
+        rate = draw.choice((own.rate, 0, 5, 4294967295))
+        coefficients = draw.choice((own.coefficients, tuple(draw.randrange(-32768, 32768) for _ in range(16))))
+        return Side(rate, 0, coefficients, draw.randrange(65536), tuple(draw.randrange(-32768 * (i > 0), 32768) for i in range(3)), b"")
+
+    left, right = (side(own) for own in first)
+    if channels == 1 and draw.random() < 0.5:
+        right = replace(right, length=draw.choice((1, 16, 2**64 - 1)), data=draw.randbytes(3))
+    many = channels if draw.random() < 0.9 else draw.choice((0, 3 - channels, 3))
+    return Push(many, left, right, False, draw.choice((LENT, 0, 31)))

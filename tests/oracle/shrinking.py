@@ -2,6 +2,7 @@
 import itertools
 from dataclasses import replace
 
+from loadings import EMPTY
 from pushes import NUMBERS, WAYS, resized
 
 TRIES = 3000
@@ -51,7 +52,7 @@ def without_block(loading, i):
 
 def simpler(names):
     """With a rule less broken, or one of them in an earlier way."""
-    for k, name in enumerate(names):
+    for k, name in enumerate(names if names != EMPTY else ()):
         if len(names) > 1:
             yield without(names, k)
         for way in itertools.takewhile(lambda way: way != name, WAYS[NUMBERS[name]]):
@@ -59,9 +60,12 @@ def simpler(names):
 
 
 def smaller_loadings(loading):
-    """The loading with fewer refused calls, cues and blocks, shorter blocks, less around them."""
+    """The loading with fewer refused calls, empty pushes, cues and blocks, shorter blocks, less around them."""
     if loading.refused:
         yield replace(loading, refused=())
+    for empty in (0, loading.empty / 2, loading.empty / 4):
+        if empty < loading.empty:
+            yield replace(loading, empty=empty)
     for i, (place, names) in enumerate(loading.refused):
         yield replace(loading, refused=without(loading.refused, i))
         for fewer in simpler(names):

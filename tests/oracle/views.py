@@ -73,6 +73,10 @@ def end_address(program, file):
     return f"end address {word(file, 24)}"
 
 
+def end_address_and_size(program, file):
+    return f"{end_address(program, file)}, {size(program, file)}"
+
+
 def like_a_file(program, file):
     alike = program.ask("load", mono(left(2))) == [f"OK {file.hex()}"]
     return "the file of [2]" if alike else "another file"

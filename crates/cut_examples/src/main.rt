@@ -64,4 +64,10 @@ fn main() {
         b"stereo.385.listing",
         Ask::Moment(385),
     );
+    run(
+        b"music.slot",
+        b"chapter.script",
+        b"chapter.listing",
+        Ask::All,
+    );
 }

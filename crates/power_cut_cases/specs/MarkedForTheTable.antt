@@ -1,4 +1,5 @@
--- Marked for the table (document 01): the marked cases, the worked example and each refusal, computed; one table, one lemma (proofs/marked_cases).
+-- Marked for the table (document 01): the marked cases, the worked example and each refusal, and empty pushes (document 02, Card 2), computed; one table, one
+-- lemma (proofs/marked_cases).
 use Prim.Native.Nat.{ℕ, zero, suc, _+_}
 use mathlib.Core.Path.{_≡_}
 use mathlib.Core.Bool.{Bool, true, false}
@@ -122,6 +123,10 @@ at s k n = record { start = s; kind = k; name = n }
 abbrev side : ℕ → List ℕ → Side
 side n bs = record { block = record { rate = 32000; length = n; coefficients = replicate 16 (pos 0); gain = 0; context = zeroContext }; bytes = bs }
 
+-- A side of no addresses and no data.
+abbrev noAddress : (rate : ℕ) → List ℤ → Side
+noAddress rate zs = record { block = record { rate = rate; length = 0; coefficients = zs; gain = 9; context = zeroContext }; bytes = [] }
+
 -- A mono push.
 abbrev mono : ℕ → List ℕ → Bool → Push
 mono n bs l = record { channels = 1; left = side n bs; right = side 0 []; last = l }
@@ -148,6 +153,15 @@ two =
 abbrev empty : Book
 empty = begun 4096 1 Auto
 
+-- A push of no addresses at rate 0, with no lent buffer.
+abbrev nothing : Call
+nothing = Call.push (record { channels = 1; left = noAddress 0 (replicate 16 (pos 7)); right = side 77 (1 ∷ 2 ∷ []); last = false }) []
+
+-- The worked example with one before, between and after its calls.
+abbrev marked : List Call
+marked =
+    nothing ∷ Call.cue (at 0 Loop 1) ∷ nothing ∷ Call.cue (at 5 Point 2) ∷ nothing ∷ nothing ∷ block true ∷ nothing ∷ Call.finish (replicate 128 9) ∷ nothing ∷ []
+
 -- The book after these calls.
 abbrev ended : List Call → Book
 ended cs = bookRun empty cs
@@ -169,6 +183,10 @@ pushed b p lent = numberDue b (Call.push p (replicate lent 9))
 abbrev pair : (rate dataLength : ℕ) → List ℕ → List ℤ → Push
 pair rate n bs zs =
     record { channels = 2; left = side 16 eight; right = record { block = record { rate = rate; length = n; coefficients = zs; gain = 0; context = zeroContext }; bytes = bs }; last = false }
+
+-- A stereo push of these sides.
+abbrev both : Side → Side → Push
+both l r = record { channels = 2; left = l; right = r; last = false }
 
 -- A mono push at this rate.
 abbrev rated : ℕ → Push
@@ -343,6 +361,17 @@ table =
     -- 23 in mono, also of negative coefficients; the same ones pass
     ∷ case (pushed single (coded (replicate 16 (pos 1))) 999 ∷ pushed (ended (Call.push (coded (replicate 16 (negsuc 0))) (replicate 64 9) ∷ [])) (coded (replicate 16 (negsuc 1))) 999
     ∷ pushed (ended (Call.push (coded (replicate 16 (negsuc 0))) (replicate 64 9) ∷ [])) (coded (replicate 16 (negsuc 0))) 999 ∷ []) (23 ∷ 23 ∷ 0 ∷ [])
+    -- "A push of length 0 in every channel, with no data and without the last mark, is now accepted" (document 02, Card 2): after 512 blocks; in stereo with
+    -- other rates and coefficients, where 29 comes first; with data, with the mark, with another length in one channel or with data in one it is not
+    ∷ case (pushed (many 512) (mono 0 [] false) 0 ∷ pushed (many 512) (mono 0 [] true) 0 ∷ pushed (many 512) (mono 0 (7 ∷ []) false) 0 ∷ []) (0 ∷ 25 ∷ 25 ∷ [])
+    ∷ case (pushed one (both (noAddress 0 (replicate 16 (pos 1))) (noAddress 5 (replicate 16 (pos 2)))) 0 ∷ pushed one (mono 0 [] false) 0 ∷ pushed single (both (side 0 []) (side 0 [])) 0 ∷ [])
+    (0 ∷ 29 ∷ 29 ∷ [])
+    ∷ case (pushed one (both (side 0 []) (side 1 [])) 0 ∷ pushed one (both (side 0 []) (side 0 (7 ∷ []))) 0 ∷ pushed single (mono 0 [] true) 0 ∷ pushed single (mono 0 (7 ∷ []) false) 0 ∷ [])
+    (12 ∷ 10 ∷ 10 ∷ 10 ∷ [])
+    -- "it hands out no write and leaves the record alone, cues still open if they were": the answers by the book and by the program, and the worked file's bytes
+    ∷ case (map answer (bookAnswers empty marked)) (0 ∷ 0 ∷ 0 ∷ 0 ∷ 0 ∷ 0 ∷ 0 ∷ stop 26 ∷ 224 ∷ stop 26 ∷ [])
+    ∷ case (map answer (answersOf (begin 4096 1 Auto (0 ∷ []) .writer) marked)) (0 ∷ 0 ∷ 0 ∷ 0 ∷ 0 ∷ 0 ∷ 0 ∷ stop 26 ∷ 224 ∷ stop 26 ∷ [])
+    ∷ case (carry (replicate 300 170) (allWrites (begin 300 1 Auto (9 ∷ [])) marked)) (file ++ replicate 76 170)
     -- "Enabled with no Loop cue ..; it falls past a first block of 0 samples that isn't the last."; "unless Disabled": the loop block's index, the number of blocks for none
     ∷ case (loopBlock (bookRun (begun 4096 1 Enabled) (Call.push (mono 2 (7 ∷ []) false) (replicate 64 9) ∷ block true ∷ [])) ∷ loopBlock (bookRun (begun 4096 1 Disabled) worked) ∷ []) (1 ∷ 1 ∷ [])
     -- "Bytes for n addresses: ADPCM (n+1)/2 rounded down, PCM16 2n, PCM8 n."; "Samples for n addresses: n in PCM"

@@ -60,7 +60,9 @@ uint32_t hps_begin(size_t slot_length, size_t channels, uint32_t mode, uint8_t *
 uint32_t hps_cue(uint8_t *loader, size_t loader_length, uint64_t start, uint32_t kind, uint64_t range, uint32_t name);
 
 /* Push of a block. In mono the right side counts for nothing and may have any length. Gives the write's place. HPS_NO_RECORD and then HPS_NO_SIDE
- * come before push's own numbers. */
+ * come before push's own numbers. A push of length 0 in every channel, with no data and not the last, is accepted unless 26 or 29 is due: it gives 0
+ * and the offset and length 0, and there is then no write to carry out. It leaves record and lent buffer; rates, coefficients and the buffer's length
+ * are not looked at. */
 uint32_t hps_push(uint8_t *loader, size_t loader_length, size_t channels, const uint8_t *left, size_t left_length, const uint8_t *left_data,
                   size_t left_data_length, const uint8_t *right, size_t right_length, const uint8_t *right_data, size_t right_data_length, bool last,
                   uint8_t *lent, size_t lent_length, size_t *offset, size_t *length);

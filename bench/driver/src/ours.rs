@@ -83,7 +83,7 @@ pub fn load(data: &[u8], block: usize, slot: &mut [u8], lent: &mut [u8]) -> usiz
     let mut loader = begin(slot, lent);
     let count = data.len().div_ceil(block);
     for (i, part) in data.chunks(block).enumerate() {
-        let place = loader.push(&[(side(part), part)], i + 1 == count, lent).unwrap();
+        let place = loader.push(&[(side(part), part)], i + 1 == count, lent).unwrap().unwrap();
         carry_out(slot, place, lent);
     }
     finish(loader, slot, lent)
@@ -96,7 +96,7 @@ pub fn load_in_place(data: &[u8], block: usize, slot: &mut [u8]) -> usize {
     let count = data.len().div_ceil(block);
     let mut next = 128;
     for (i, part) in data.chunks(block).enumerate() {
-        let place = loader.push(&[(side(part), part)], i + 1 == count, &mut slot[next..]).unwrap();
+        let place = loader.push(&[(side(part), part)], i + 1 == count, &mut slot[next..]).unwrap().unwrap();
         next = place.offset + place.length;
     }
     finish(loader, slot, &mut lent)

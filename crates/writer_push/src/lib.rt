@@ -95,10 +95,8 @@ pub fn push(
         return refused(w, plan.due);
     }
     if plan.size == 0 {
-        return Called {
-            reply: Reply::NoWrite,
-            writer: w,
-        };
+        let reply = Reply::NoWrite;
+        return Called { reply, writer: w };
     }
     let header = plan.header;
     put_header(lent, 0, header);

@@ -40,11 +40,11 @@ pub fn no_addresses(
     right: usize,
     left_bytes: usize,
     right_bytes: usize,
-    last: bool,
+    mark: bool,
 ) -> bool
-    ensures { λ r. ⌜ r ≡ noAddresses channels left right «left_bytes» «right_bytes» last ⌝ }
+    ensures { λ r. ⌜ r ≡ noAddresses channels left right «left_bytes» «right_bytes» mark ⌝ }
 {
-    if last {
+    if mark {
         return false;
     }
     if zero_in_each(channels, left, right) {

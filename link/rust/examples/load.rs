@@ -13,8 +13,9 @@ fn load(slot: &mut [u8]) -> Result<usize, u32> {
     loader.cue(0, Kind::Loop, 0)?;
     loader.cue(5, Kind::Point, 0)?;
     let side = Side { rate: 32_000, length: 16, ..Side::default() };
-    let place = loader.push(&[(side, &[7; 8])], true, &mut lent)?;
-    carry_out(slot, place, &lent);
+    if let Some(place) = loader.push(&[(side, &[7; 8])], true, &mut lent)? {
+        carry_out(slot, place, &lent);
+    }
     let length = loader.finish(&mut lent)?;
     let mut from = 0;
     for place in FINISH {

@@ -288,8 +288,8 @@ impl Loader {
         answer(unsafe { raw::hps_cue(self.bytes.as_mut_ptr(), LOADER_SIZE, start, kind, range, name) })
     }
 
-    /// One block, a side and its data for each channel.
-    pub fn push(&mut self, sides: &[(Side, &[u8])], last: bool, lent: &mut [u8]) -> Result<Place, u32> {
+    /// One block, a side and its data for each channel. A push of no addresses, without data and not the last, has no block and no write.
+    pub fn push(&mut self, sides: &[(Side, &[u8])], last: bool, lent: &mut [u8]) -> Result<Option<Place>, u32> {
         let none: (Side, &[u8]) = (Side::default(), &[]);
         let left = sides.first().unwrap_or(&none);
         let right = sides.get(1).unwrap_or(&none);
@@ -315,7 +315,7 @@ impl Loader {
                 &mut place.length,
             )
         })?;
-        Ok(place)
+        Ok((place.length > 0).then_some(place))
     }
 
     /// Gives the finished length; `FINISH` says where the lent buffer's bytes go.

@@ -126,6 +126,58 @@ fn refused_loading_calls_change_nothing() {
     refused(&loader, 26, |l, lent| l.finish(lent).map(drop));
 }
 
+/// A push of no addresses: no write, and the record and the lent bytes as they were.
+fn nothing(loader: &mut Loader, sides: &[(Side, &[u8])], lent: &mut [u8]) {
+    let (before, bytes) = (loader.clone(), lent.to_vec());
+    assert_eq!(loader.push(sides, false, lent), Ok(None));
+    assert!(*loader == before, "the record was changed by a push of no addresses");
+    assert!(lent == bytes, "the lent bytes were changed by a push of no addresses");
+}
+
+/// Its offset and length as they are given to C.
+fn nothing_raw(kept: &mut [u8], channels: usize, right: &[u8], right_data: &[u8], last: bool) -> (u32, usize, usize) {
+    let (left, mut lent, mut offset, mut length) = ([0; SIDE_SIZE], [0x5A; 8], 0x5A, 0x5A);
+    let number = unsafe {
+        raw::hps_push(
+            kept.as_mut_ptr(), kept.len(), channels, left.as_ptr(), SIDE_SIZE, left.as_ptr(), 0, right.as_ptr(), right.len(), right_data.as_ptr(), right_data.len(),
+            last, lent.as_mut_ptr(), lent.len(), &mut offset, &mut length,
+        )
+    };
+    assert_eq!(lent, [0x5A; 8]);
+    (number, offset, length)
+}
+
+#[test]
+fn a_push_of_no_addresses_leaves_everything() {
+    let mut lent = [0x5A; 256];
+    let (mut loader, _) = Loader::begin(300, 1, Looping::Auto, &mut lent).unwrap();
+    let odd = Side { rate: 0, coefficients: [9; 16], gain: 7, ..side(0) };
+    nothing(&mut loader, &[(odd, &[])], &mut lent);
+    loader.cue(5, Kind::Point, 1).unwrap();
+    nothing(&mut loader, &[(side(0), &[])], &mut []);
+    loader.push(&[(side(16), &[7; 8])], false, &mut lent).unwrap().unwrap();
+    nothing(&mut loader, &[(odd, &[])], &mut lent);
+    refused(&loader, 10, |l, lent| l.push(&[(side(0), &[0])], false, lent).map(drop));
+    refused(&loader, 10, |l, lent| l.push(&[(side(0), &[])], true, lent).map(drop));
+    refused(&loader, 29, |l, lent| l.push(&[(side(0), &[]), (side(0), &[])], false, lent).map(drop));
+    loader.push(&[(side(16), &[7; 8])], true, &mut lent).unwrap().unwrap();
+    refused(&loader, 26, |l, lent| l.push(&[(side(0), &[])], false, lent).map(drop));
+    assert_eq!(loader.finish(&mut lent), Ok(288));
+}
+
+#[test]
+fn a_push_of_no_addresses_as_c_has_it() {
+    for channels in [1, 2] {
+        let mut kept = [0x5A; LOADER_SIZE + 8];
+        assert_eq!(begin_into(300, channels, 2, &mut kept), 0);
+        let before = kept;
+        assert_eq!(nothing_raw(&mut kept, channels, &[0; SIDE_SIZE], &[], false), (0, 0, 0));
+        assert_eq!(nothing_raw(&mut kept, channels, &[0; SIDE_SIZE], &[], true), (9, 0x5A, 0x5A), "with the last mark");
+        assert_eq!(nothing_raw(&mut kept, channels, &[0; SIDE_SIZE], &[1], false), if channels == 1 { (0, 0, 0) } else { (9, 0x5A, 0x5A) });
+        assert!(kept == before, "every byte of the record, and those past it");
+    }
+}
+
 #[test]
 fn stereo_sides_must_agree() {
     let mut lent = [0; 256];

@@ -26,7 +26,7 @@ pub fn loaded() -> (Vec<u8>, usize, Vec<Place>) {
     for (i, length) in [(0u8, 32), (1, 17)] {
         let left: Vec<u8> = (0..(length as usize).div_ceil(2)).map(|k| 16 * i + k as u8).collect();
         let right: Vec<u8> = left.iter().map(|b| b | 0x80).collect();
-        let place = loader.push(&[(side(length), &left), (side(length), &right)], i == 1, &mut lent).unwrap();
+        let place = loader.push(&[(side(length), &left), (side(length), &right)], i == 1, &mut lent).unwrap().unwrap();
         carry_out(&mut slot, place, &lent);
         places.push(place);
     }

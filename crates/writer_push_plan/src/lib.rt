@@ -219,19 +219,14 @@ pub fn plan_push(
     ensures { λ p. ⌜ p ≡ planOf setup s taken held end channels left right «left_bytes» «right_bytes» last lent ⌝ }
 {
     let state = state_due(s.last, setup.channels, channels);
-    if state != 0 {
-        return no_plan(state, s);
-    }
-    if no_addresses(
+    let empty = no_addresses(
         channels,
         left.length,
         right.length,
         left_bytes,
         right_bytes,
         last,
-    ) {
-        return no_plan(0, s);
-    }
+    );
     let first = s.left;
     let second = s.right;
     let early = early_due(
@@ -244,6 +239,12 @@ pub fn plan_push(
         left_bytes,
         right_bytes,
     );
+    if state != 0 {
+        return no_plan(state, s);
+    }
+    if empty {
+        return no_plan(0, s);
+    }
     if early != 0 {
         return no_plan(early, s);
     }

@@ -12,29 +12,29 @@ use Rattle.writer_push_plan.proofs.plan_push.Tie as tie
 
 -- ---- What is known at the places of the code
 
-abbrev stated : tie.Else2 → tie.After-state-due
-stated c = c .before .before .before
+abbrev start : tie.After-early-due → tie.Start
+start c = c .before .before .before .before .before
+
+abbrev stated : tie.After-early-due → tie.After-state-due
+stated c = c .before .before .before .before
 
 -- the push is not empty
-some : (c : tie.Else2) → let a = stated c .before .args in noAddresses (a .channels) (a .left .length) (a .right .length) (a .left-bytes) (a .right-bytes) (a .last) ≡ false
-some c = sym (c .before .no-addresses .ensures) ∙ c .if2 .left
-
-abbrev tested : tie.Else3 → tie.Else2
-tested c = c .before .before .before .before
-
-abbrev start : tie.Else3 → tie.Start
-start c = stated (tested c) .before
+some : (c : tie.Else2) → let a = start (c .before .before) .args in noAddresses (a .channels) (a .left .length) (a .right .length) (a .left-bytes) (a .right-bytes) (a .last) ≡ false
+some c = sym (c .before .before .before .before .before .no-addresses .ensures) ∙ c .if2 .left
 
 -- none before 24 is due
-early-none : (c : tie.Else3) → Passing (start c .args .s .blocks) (start c .args .channels) (start c .args .left) (start c .args .left-bytes) (start c .args .right-bytes)
-early-none c = passing _ _ _ _ _ _ _ _ _ (c .before .early-due .ensures) (c .if3 .left)
+abbrev due : tie.Else3 → tie.After-early-due
+due c = c .before .before .before
+
+early-none : (c : tie.Else3) → let a = start (due c) .args in Passing (a .s .blocks) (a .channels) (a .left) (a .left-bytes) (a .right-bytes)
+early-none c = passing _ _ _ _ _ _ _ _ _ (due c .early-due .ensures) (c .if3 .left)
 
 -- nor are there more points and ranges than a slot has bytes
 abbrev first : tie.Else4 → tie.Else3
 first c = c .before .before
 
 abbrev begun : tie.Else4 → tie.Start
-begun c = start (first c)
+begun c = start (due (first c))
 
 small : (c : tie.After-data-size) → c .data-size .result ≤ lengthLimit
 small c = let h = early-none (first (c .before)) in size-small _ _ _ _ (h .left) (h .right) (c .data-size .ensures)
@@ -56,25 +56,27 @@ room c = fits-room _ _ _ _ _ (c .before .room-due .ensures) (c .if5 .left)
 
 returns-2 : tie.Need-returns-2
 returns-2 c =
-    let n = c .before .before in
-    let q = n .before .before in
-    let s = q .before in
+    let taken = c .before in
+    let d = taken .before .before in
+    let s = start d in
     plan-empty (s .args .setup) (s .args .s) (s .args .taken) (s .args .held) (s .args .end) (s .args .channels) (s .args .left) (s .args .right) (s .args .left-bytes) (s .args .right-bytes)
-    (s .args .last) (s .args .lent) _ (q .state-due .ensures) (n .before .if1 .left) (sym (n .no-addresses .ensures) ∙ c .before .if2 .taken) _ (c .no-plan2 .ensures)
+    (s .args .last) (s .args .lent) _ (stated d .state-due .ensures) (taken .before .if1 .left) (sym (d .before .before .before .no-addresses .ensures) ∙ taken .if2 .taken) _ (c .no-plan2 .ensures)
 
 returns-3 : tie.Need-returns-3
 returns-3 c =
-    let e = c .before .before .before .before .before in
-    let s = stated e .before in
+    let refused = c .before in
+    let n = refused .before in
+    let d = n .before .before in
+    let s = start d in
     plan-early (s .args .setup) (s .args .s) (s .args .taken) (s .args .held) (s .args .end) (s .args .channels) (s .args .left) (s .args .right) (s .args .left-bytes) (s .args .right-bytes)
-    (s .args .last) (s .args .lent) _ (stated e .state-due .ensures) (e .before .before .if1 .left) (some e) _ (c .before .before .early-due .ensures) (c .before .if3 .taken) _ (c .no-plan3 .ensures)
+    (s .args .last) (s .args .lent) _ (stated d .state-due .ensures) (n .before .if1 .left) (some n) _ (d .early-due .ensures) (refused .if3 .taken) _ (c .no-plan3 .ensures)
 
 returns-4 : tie.Need-returns-4
 returns-4 c =
     let e = c .before .before .before in
-    let s = start e in
+    let s = start (due e) in
     plan-many (s .args .setup) (s .args .s) (s .args .taken) (s .args .held) (s .args .end) (s .args .channels) (s .args .left) (s .args .right) (s .args .left-bytes) (s .args .right-bytes)
-    (s .args .last) (s .args .lent) _ (stated (tested e) .state-due .ensures) (tested e .before .before .if1 .left) (some (tested e)) _ (e .before .early-due .ensures) (e .if3 .left)
+    (s .args .last) (s .args .lent) _ (stated (due e) .state-due .ensures) (e .before .before .if1 .left) (some (e .before)) _ (due e .early-due .ensures) (e .if3 .left)
     (omega (arith, s .pre .small, c .before .if4 .taken)) _ (c .no-plan4 .ensures)
 
 data-size-requires : tie.Need-data-size-requires
@@ -88,9 +90,9 @@ returns-5 : tie.Need-returns-5
 returns-5 c =
     let d = c .before .before .before in
     let e = first (d .before .before) in
-    let s = start e in
+    let s = start (due e) in
     plan-room (s .args .setup) (s .args .s) (s .args .taken) (s .args .held) (s .args .end) (s .args .channels) (s .args .left) (s .args .right) (s .args .left-bytes) (s .args .right-bytes)
-    (s .args .last) (s .args .lent) _ (stated (tested e) .state-due .ensures) (tested e .before .before .if1 .left) (some (tested e)) _ (e .before .early-due .ensures) (e .if3 .left)
+    (s .args .last) (s .args .lent) _ (stated (due e) .state-due .ensures) (e .before .before .if1 .left) (some (e .before)) _ (due e .early-due .ensures) (e .if3 .left)
     _ _ (sized d) (c .before .before .room-due .ensures) (c .before .if5 .taken) _ (c .no-plan5 .ensures)
 
 add-next-offset : tie.Need-add-next-offset
@@ -133,9 +135,9 @@ returns-6 c =
     let f = c .before .before .before .before .before .before in
     let d = c .before .before .before .before .before .before .before .before .before .before in
     let e = first (c .before .before .before .before .before .before .before .before .before .before .before .before) in
-    let s = start e in
+    let s = start (due e) in
     plan-made (s .args .setup) (s .args .s) (s .args .taken) (s .args .held) (s .args .end) (s .args .channels) (s .args .left) (s .args .right) (s .args .left-bytes) (s .args .right-bytes)
-    (s .args .last) (s .args .lent) _ (stated (tested e) .state-due .ensures) (tested e .before .before .if1 .left) (some (tested e)) _ (e .before .early-due .ensures) (e .if3 .left)
+    (s .args .last) (s .args .lent) _ (stated (due e) .state-due .ensures) (e .before .before .if1 .left) (some (e .before)) _ (due e .early-due .ensures) (e .if3 .left)
     _ _ (sized d) (f .before .before .before .room-due .ensures) (f .before .before .if5 .left) _
     (f .before .loop-due .ensures) _ (f .loop-after .ensures)
     _ _ _ _ _ (d .before .data-size .ensures) (d .data-start .ensures) (n .next-offset .ensures) (c .before .before .second-context .ensures) (c .advance .ensures)
@@ -146,11 +148,11 @@ plan-push-spec =
     (tie.spec
     (λ c κs. search needs)
     (λ c κs. search needs)
+    (λ c κs. search needs)
+    (λ c κs. search needs)
     (λ c. search (plan-state, needs))
     (λ c κs. search needs)
-    (λ c κs. search needs)
     returns-2
-    (λ c κs. search needs)
     (λ c κs. search needs)
     returns-3
     (λ c κs. search needs)

@@ -1,13 +1,11 @@
 -- Empty pushes, one and in a list.
-use Prim.Native.Nat.{ℕ, _<_}
+use Prim.Native.Nat.{ℕ}
 use mathlib.Core.Path.{_≡_, refl, ap, sym, subst, _∙_}
 use mathlib.Core.Bool.{Bool, true, false}
 use mathlib.Core.List.{List, [], _∷_, _++_}
 use lib.Dec.{eqb}
 use lib.ListN.{length}
-use native.Mathlib.Omega.{arith}
 use borrow.Author.Tests.{lt-ltb, eq-eqb}
-use Rattle.layout.specs.Choice.{pick}
 use Rattle.layout.specs.Lists.{filter, any}
 use Rattle.layout.specs.Refusals.{Due, due, firstDue}
 use Rattle.layout.proofs.Cases.{by-cases, apart}
@@ -20,7 +18,7 @@ use Rattle.writer.specs.declared.HpsWriter.{HpsWriter}
 use Rattle.writer.proofs.WriteLaws.{writes-are}
 use Rattle.power_cut.specs.LoadingBook.{Book, begun, stateOf, takes, bookAnswer, bookAfter, bookAnswers, bookRun}
 use Rattle.power_cut.specs.PowerCut.{step, recordAfter, answersOf, writesOf}
-use Rattle.power_cut.specs.Consequences.{WholeList, begunOf}
+use Rattle.power_cut.specs.Consequences.{begunOf}
 use Rattle.power_cut.specs.EmptyPushes.{emptyDue, LeavesAll, BookStays, EmptyPushes, NeverPast10, pushesNothing, others, ofOthers, AsIfAbsent, EmptyPushesAbsent, CutAsIfAbsent}
 
 -- ---- One empty push

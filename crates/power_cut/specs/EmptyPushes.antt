@@ -6,9 +6,9 @@ use mathlib.Core.List.{List, [], _∷_}
 use lib.Dec.{eqb}
 use Rattle.layout.specs.Choice.{pick}
 use Rattle.layout.specs.Lists.{filter, any}
-use Rattle.layout.specs.Refusals.{due, firstDue}
+use Rattle.layout.specs.Refusals.{firstDue}
 use Rattle.writer.specs.WritesAndCuttingRule.{CutLeaves}
-use Rattle.writer.specs.Loading.{Push, Call, Answer, answerBy, lengthOf, emptyPush, PushState, pushRefusal}
+use Rattle.writer.specs.Loading.{Push, Call, Answer, answerBy, lengthOf, stateDue, emptyPush, PushState, pushRefusal}
 use Rattle.writer.specs.Calls.{writes, pushOf, answerOf}
 use Rattle.writer.specs.declared.Cue.{Cue}
 use Rattle.writer.specs.declared.HpsWriter.{HpsWriter}
@@ -20,7 +20,7 @@ use Rattle.power_cut.specs.Consequences.{WholeList, begunOf, CutOf}
 
 -- "is now accepted .. The test comes right after 29, so rates and coefficients aren't looked at.": 26 and 29 alone can be due
 abbrev pub emptyDue : (last : Bool) (own channels : ℕ) → ℕ
-emptyDue last own ch = firstDue (due 26 last ∷ due 29 (not (eqb ch own)) ∷ [])
+emptyDue last own ch = firstDue (stateDue last own ch)
 
 -- "it hands out no write and leaves the record alone", and the lent buffer
 pub record LeavesAll (w : HpsWriter) (p : Push) (lent : List ℕ) : Type 0 where

@@ -70,7 +70,8 @@ unfolding fieldsIn
 side-there k = (refl, refl)
 
 module _ (k : List ℕ) (some : streamIn k .slot ≡ 0 → ⊥) {ch : ℕ} {l r : ChannelBlock} {ld rd : List ℕ} {last : Bool} {lent : List ℕ} {end : ℕ} {t : Taken} {held : Bool} {plan : Plan}
-    (w : Worked (writerIn k) ch l r ld rd last lent end t held plan) (z : plan .due ≡ 0) (block : emptyPush (pushArgs ch l r ld rd last) ≡ false) (fl : SideFits l) (fr : SideFits r) (long : Long (streamIn k .channels)) where
+    (w : Worked (writerIn k) ch l r ld rd last lent end t held plan) (z : plan .due ≡ 0) (block : emptyPush (pushArgs ch l r ld rd last) ≡ false)
+    (fl : SideFits l) (fr : SideFits r) (long : Long (streamIn k .channels)) where
   abbrev next : Fields
   next = fieldsWith (streamIn k) (plan .after)
 

@@ -130,8 +130,8 @@ record Computes (n ch : ℕ) (cs : List Call) (bytes lengths : List ℕ) (writte
 
 computes : Computes 300 1 worked file (16 ∷ []) 1 × Computes 420 2 recorded files.stereo (16 ∷ 16 ∷ []) 7
 unfolding filter any sum flatMap same firstIndex be16 be32 beZ16 P contextBytes channelBytes noChannel fileHeaderBytes headerBytes cueBytes fillers padded sizeOf blockHeader blockBytes
-    adpcmBytes adpcmSamples firstDue lexLt before has insert points pointsOf bytesOf sameZ dataSize stateDue noAddresses blocksDue rateDue lengthDue dataDue coefficientsDue earlyDue roomDue pushOrder filled
-    second headerFor beginOf baseOf endOfBlocks lastPushed takes enters bookRun loopBlock nextOf blocksBytes fileHeader fileBytes
+    adpcmBytes adpcmSamples firstDue lexLt before has insert points pointsOf bytesOf sameZ dataSize stateDue noAddresses blocksDue rateDue lengthDue dataDue coefficientsDue earlyDue roomDue
+    pushOrder filled second headerFor beginOf baseOf endOfBlocks lastPushed takes enters bookRun loopBlock nextOf blocksBytes fileHeader fileBytes
 computes = (
   record { begins = refl; typed = refl; done = refl; file = refl; end = refl; blocks = refl; cues = refl },
   record { begins = refl; typed = refl; done = refl; file = refl; end = refl; blocks = refl; cues = refl },

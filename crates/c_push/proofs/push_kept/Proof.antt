@@ -169,8 +169,12 @@ returns-3 c =
     let w = worked (d .before .before) in
     let e = planned (d .before .before) in
     let k = start e .args .kept .now in
-    let q = push-nothing (writerIn k) (pushed (start e)) (start e .args .lent .now) _ (due-is w) (d .if2 .left) (no-block w (d .if2 .left) (c .if3 .taken)) in
-    (on-record k (pushOf (writerIn k) (pushed (start e)) (start e .args .lent .now)) (some e) _ (ap (λ (x : Called). callIn (x .reply)) (q .0)), q .1, ap (λ (x : Called). whereWritten (x .reply) (putAt k 0 (pushedBytes (fieldsOf (x .writer)))) k) (q .0), ap (λ (x : Called). x .writer) (q .0))
+    let q = push-nothing (writerIn k) (pushed (start e)) (start e .args .lent .now) _ (due-is w) (d .if2 .left) (no-block w (d .if2 .left) (c .if3 .taken)) in (
+      on-record k (pushOf (writerIn k) (pushed (start e)) (start e .args .lent .now)) (some e) _ (ap (λ (x : Called). callIn (x .reply)) (q .0)),
+      q .1,
+      ap (λ (x : Called). whereWritten (x .reply) (putAt k 0 (pushedBytes (fieldsOf (x .writer)))) k) (q .0),
+      ap (λ (x : Called). x .writer) (q .0),
+    )
 
 put-taken-kept-requires : tie.Need-put-taken-kept-requires
 put-taken-kept-requires c κs =

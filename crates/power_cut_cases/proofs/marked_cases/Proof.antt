@@ -24,7 +24,8 @@ use Rattle.power_cut_cases.proofs.marked_cases.Tie as tie
 marked : MarkedCases
 unfolding filter any sum flatMap same firstIndex be16 u16At be32 u32At beZ16 i16s field P contextBytes contextAt channelBytes channelAt readChannel noChannel readMagic fileHeaderBytes
     headerBytes headerAt readHeader cueBytes cueAt fillers padded sizeOf blockHeader blockBytes adpcmBytes adpcmSamples firstDue walkFrom made opening dataStart dataPart blockRead lengthsAt
-    dataRemaining cueFrom cueStep handed writesIn lexLt before has insert points pointsOf bytesOf sameZ dataSize stateDue noAddresses blocksDue rateDue lengthDue dataDue coefficientsDue earlyDue roomDue pushOrder
+    dataRemaining cueFrom cueStep handed writesIn lexLt before has insert points pointsOf bytesOf sameZ dataSize stateDue noAddresses blocksDue rateDue lengthDue dataDue coefficientsDue
+    earlyDue roomDue pushOrder
     filled second headerFor writes beginOf afterCue cueOf below countTaken cuesTaken takenOf endFor loopsHere loopDue loopAfter nextFor advanced afterBlock pushBytes pushOf headerOf
     afterFinish finishOf lengthsDue estimateRefusal estimated estimateOf baseOf endOfBlocks lastPushed takes enters bookAnswers bookRun loopBlock openingOf blockOf remainingOf named cuesFrom
     cuesOf nextOf blocksBytes fileHeader fileBytes answersOf writesOf nthCue cues pointsTo carry table MarkedCases

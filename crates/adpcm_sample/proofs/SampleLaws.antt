@@ -12,7 +12,7 @@ use lib.IntN.{ℤ, pos, negsuc, natAbs, _+ℤ_, _-ℤ_, _*ℤ_}
 use mir.Syntax.{w16, w64}
 use mir.Val.{SFits, toZ}
 use mir.ValLaws.{toZ-pos}
-use Rattle.whole_numbers.proofs.WholeLaws.{abs-add, abs-floor, abs-product, fits64, times-bound, clamp-fits}
+use Rattle.whole_numbers.proofs.WholeLaws.{abs-add, abs-floor, abs-product, fits-in, times-bound, clamp-fits}
 use Rattle.adpcm_sample.specs.Sample.{signedHalf, predicted, scale, sample}
 
 module _ {c0 c1 last oldest : ℤ} (f0 : SFits w16 c0) (f1 : SFits w16 c1) (fl : SFits w16 last) (fo : SFits w16 oldest) where
@@ -20,21 +20,21 @@ module _ {c0 c1 last oldest : ℤ} (f0 : SFits w16 c0) (f1 : SFits w16 c1) (fl :
   two-bound = omega (arith, abs-add (c0 *ℤ last) (c1 *ℤ oldest), times-bound f0 fl, times-bound f1 fo)
 
   pub two-fits : SFits w64 (c0 *ℤ last +ℤ c1 *ℤ oldest)
-  two-fits = fits64 _ (let h = two-bound in omega arith)
+  two-fits = fits-in w64 _ (let h = two-bound in omega arith)
 
   -- and with a small number beside them
   pub sum-bound : (k : ℕ) → leb k 2048 ≡ true → natAbs (c0 *ℤ last +ℤ c1 *ℤ oldest +ℤ pos k) ≤ 2147485696
   sum-bound k e = let h = two-bound in omega (arith, leb-true k 2048 e, abs-add (c0 *ℤ last +ℤ c1 *ℤ oldest) (pos k))
 
   pub sum-fits : (k : ℕ) → leb k 2048 ≡ true → SFits w64 (c0 *ℤ last +ℤ c1 *ℤ oldest +ℤ pos k)
-  sum-fits k e = fits64 _ (let h = sum-bound k e in omega arith)
+  sum-fits k e = fits-in w64 _ (let h = sum-bound k e in omega arith)
 
   pub predicted-bound : natAbs (predicted c0 c1 last oldest) ≤ 2147485696
   unfolding predicted
   predicted-bound = let h = sum-bound 1024 refl in omega (arith, abs-floor (c0 *ℤ last +ℤ c1 *ℤ oldest +ℤ pos 1024) 2048)
 
   pub predicted-fits : SFits w64 (predicted c0 c1 last oldest)
-  predicted-fits = fits64 _ (let h = predicted-bound in omega arith)
+  predicted-fits = fits-in w64 _ (let h = predicted-bound in omega arith)
 
 -- A half byte.
 less-bound : (h : ℕ) → h < 256 → natAbs (pos h -ℤ pos 16) ≤ 271
@@ -49,10 +49,10 @@ half-bound h p = by (ltb h 8)
     by false = less-bound h p
 
 pub less-fits : (h : ℕ) → h < 256 → SFits w64 (pos h -ℤ pos 16)
-less-fits h p = fits64 _ (let b = less-bound h p in omega arith)
+less-fits h p = fits-in w64 _ (let b = less-bound h p in omega arith)
 
 pub half-fits : (h : ℕ) → h < 256 → SFits w64 (signedHalf h)
-half-fits h p = fits64 _ (let b = half-bound h p in omega arith)
+half-fits h p = fits-in w64 _ (let b = half-bound h p in omega arith)
 
 -- The scale.
 pub scale-bound : (ps : ℕ) → scale ps ≤ 32768
@@ -69,12 +69,12 @@ scale-read ps =
     ap (toZ w64) (mod-eq-of-lt (omega arith) ∙ one-mul (scale ps)) ∙ toZ-pos w64 (scale ps) (omega arith)
 
 pub scaled-fits : (h ps : ℕ) → h < 256 → SFits w64 (signedHalf h *ℤ pos (scale ps))
-scaled-fits h ps p = fits64 _ (let b = abs-product (signedHalf h) (pos (scale ps)) (half-bound h p) (scale-bound ps) in omega arith)
+scaled-fits h ps p = fits-in w64 _ (let b = abs-product (signedHalf h) (pos (scale ps)) (half-bound h p) (scale-bound ps) in omega arith)
 
 pub whole-fits : {c0 c1 last oldest : ℤ} → SFits w16 c0 → SFits w16 c1 → SFits w16 last → SFits w16 oldest → (h ps : ℕ) → h < 256
     → SFits w64 (predicted c0 c1 last oldest +ℤ signedHalf h *ℤ pos (scale ps))
 whole-fits {c0} {c1} {last} {oldest} f0 f1 fl fo h ps p =
-    fits64 _
+    fits-in w64 _
     (let b = abs-product (signedHalf h) (pos (scale ps)) (half-bound h p) (scale-bound ps) in
     let q = predicted-bound f0 f1 fl fo in
     omega (arith, abs-add (predicted c0 c1 last oldest) (signedHalf h *ℤ pos (scale ps))))

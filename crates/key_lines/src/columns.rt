@@ -15,8 +15,8 @@ fn digit(n: u64) -> u8
 
 ghost use Prim.Native.Nat.{_+_, _%_};
 
-// From the last digit on; once no digit is left, blanks.
-fn put_column(out: &mut [u8], at: usize, width: usize, n: u64)
+// A number right-justified in so many columns, where they fit: from the last digit on; once no digit is left, blanks.
+pub fn put_column(out: &mut [u8], at: usize, width: usize, n: u64)
     ensures { λ _. ⌜ now (out .exit) ≡ putAt (now (out .entry)) at (column width n) ⌝ }
 {
     if inside(out.len(), at, width) {

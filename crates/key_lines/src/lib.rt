@@ -10,7 +10,7 @@ ghost use mathlib.Core.Path.{_≡_};
 ghost use Rattle.layout.specs.Records.{lengthIn};
 ghost use Rattle.key_lines.specs.Lines.{stopLine, headLine, loopColumn, blockLine, loopLine, cueLine, LinePut};
 
-mod columns; // columns.rt: a column, right-justified
+pub mod columns; // columns.rt: a column, right-justified
 pub mod line; // line.rt: a word, its columns and a newline
 
 // A column: a number of 11 columns, a cue's start of 21, `-` in the last of 11; or no column.

@@ -122,7 +122,7 @@ fn be32(s: &[u8], at: usize) -> u32
 }
 
 // The signed number with these bits: of the upper half, the bits turned over are a number that the signed type holds.
-fn signed16(x: u16) -> i16
+pub fn signed16(x: u16) -> i16
     ensures { λ r. ⌜ r ≡ toZ w16 x ⌝ }
 {
     if x < 0x8000 {

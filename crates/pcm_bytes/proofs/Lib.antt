@@ -1,1 +1,2 @@
+pub mod GotLaws
 pub mod PcmLaws

@@ -17,11 +17,15 @@ unfolding pcmBytes
 pcm-length [] = refl
 pcm-length (x ∷ xs) = omega (arith, pcm-length xs)
 
--- one sample more
+-- samples behind samples
+pub pcm-append : (xs ys : List ℤ) → pcmBytes (xs ++ ys) ≡ pcmBytes xs ++ pcmBytes ys
+unfolding pcmBytes
+pcm-append [] ys = refl
+pcm-append (x ∷ xs) ys = ap (λ (l : List ℕ). ofZ w16 x % 256 ∷ ofZ w16 x / 256 ∷ l) (pcm-append xs ys)
+
 pcm-snoc : (xs : List ℤ) (x : ℤ) → pcmBytes (xs ++ (x ∷ [])) ≡ pcmBytes xs ++ (ofZ w16 x % 256 ∷ ofZ w16 x / 256 ∷ [])
 unfolding pcmBytes
-pcm-snoc [] x = refl
-pcm-snoc (y ∷ ys) x = ap (λ (l : List ℕ). ofZ w16 y % 256 ∷ ofZ w16 y / 256 ∷ l) (pcm-snoc ys x)
+pcm-snoc xs x = pcm-append xs (x ∷ [])
 
 -- two bytes stored one after the other
 two-stored : (l : List ℕ) (k a b : ℕ) → k + 1 < length l → take (suc (k + 1)) (set (set l k a) (k + 1) b) ≡ take k l ++ (a ∷ b ∷ [])

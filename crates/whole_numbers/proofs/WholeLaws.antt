@@ -1,5 +1,5 @@
 -- Bounds on whole numbers by their distance from 0, `natAbs`: of sums, products and quotients rounded down; and what fits a width by them.
-use Prim.Native.Nat.{ℕ, zero, suc, _+_, _*_, _-_, _≤_, _<_}
+use Prim.Native.Nat.{ℕ, zero, suc, _+_, _*_, _-_, _^_, _≤_, _<_}
 use mathlib.Core.Path.{_≡_, refl}
 use mathlib.Core.Bool.{Bool, true, false, cond}
 use Rattle.layout.specs.Choice.{pick}
@@ -9,8 +9,8 @@ use lib.Dec.{ltb}
 use borrow.Author.Tests.{ltb-true, ltb-false}
 use lib.IntN.{ℤ, pos, negsuc, negℤ, natAbs, subℕ, _+ℤ_, _*ℤ_}
 use lib.Signed.{shrZ, ltZ}
-use mir.Syntax.{w16, w64}
-use mir.Val.{SFits}
+use mir.Syntax.{Width, w16, w64}
+use mir.Val.{SFits, hbits}
 use Rattle.whole_numbers.specs.Whole.{floorDiv, clamped}
 
 -- The shift that copies the sign bit is the division rounded down.
@@ -47,17 +47,17 @@ unfolding floorDiv
 abs-floor (pos n) m = div-le-self n m
 abs-floor (negsuc n) m = let h = div-le-self n m in omega arith
 
--- What fits 16 bits is at most 32768 from 0; what is below 2^63 from 0 fits 64 bits.
+-- What fits 16 bits is at most 32768 from 0. What is that near fits a width, and what fits 16 bits fits a greater one.
 pub abs16 : {z : ℤ} → SFits w16 z → natAbs z ≤ 32768
 abs16 {z = pos n} f = omega (arith, f .sfits)
 abs16 {z = negsuc n} f = omega (arith, f .sfits)
 
-pub fits64 : (z : ℤ) → natAbs z < 9223372036854775808 → SFits w64 z
-fits64 (pos n) h = record { sfits = h }
-fits64 (negsuc n) h = record { sfits = omega arith }
+pub fits-in : (w : Width) (z : ℤ) → natAbs z < 2 ^ hbits w → SFits w z
+fits-in w (pos n) h = record { sfits = h }
+fits-in w (negsuc n) h = record { sfits = omega arith }
 
-pub wide : {z : ℤ} → SFits w16 z → SFits w64 z
-wide {z} f = fits64 z (let h = abs16 f in omega arith)
+pub wide : (w : Width) {z : ℤ} → 32768 < 2 ^ hbits w → SFits w16 z → SFits w z
+wide w {z} m f = fits-in w z (let h = abs16 f in omega arith)
 
 -- Products of numbers with bounds.
 pub mul-bound : {a b m n : ℕ} → a ≤ m → b ≤ n → a * b ≤ m * n
@@ -83,8 +83,8 @@ pub unclamped-fits : (z : ℤ) → ltZ z (negsuc 32767) ≡ false → ltZ (pos 3
 unclamped-fits (pos n) d e = record { sfits = omega (arith, ltb-false 32767 n e) }
 unclamped-fits (negsuc n) d e = record { sfits = omega (arith, ltb-false 32767 n d) }
 
--- A quotient rounded down of what fits 64 bits, and a product of what fits 16.
-pub floor-fits : {z : ℤ} (m : ℕ) → SFits w64 z → SFits w64 (floorDiv z m)
+-- A quotient rounded down fits where the number does; a product of what fits 16 bits fits 64.
+pub floor-fits : {w : Width} {z : ℤ} (m : ℕ) → SFits w z → SFits w (floorDiv z m)
 unfolding floorDiv
 floor-fits {z = pos n} m f = record { sfits = let h = div-le-self n m in omega (arith, f .sfits) }
 floor-fits {z = negsuc n} m f = record { sfits = let h = div-le-self n m in omega (arith, f .sfits) }
@@ -93,7 +93,7 @@ pub times-bound : {a b : ℤ} → SFits w16 a → SFits w16 b → natAbs (a *ℤ
 times-bound {a} {b} f g = abs-product a b (abs16 f) (abs16 g)
 
 pub times-fits : {a b : ℤ} → SFits w16 a → SFits w16 b → SFits w64 (a *ℤ b)
-times-fits {a} {b} f g = fits64 (a *ℤ b) (let h = times-bound f g in omega arith)
+times-fits {a} {b} f g = fits-in w64 (a *ℤ b) (let h = times-bound f g in omega arith)
 
 pub clamp-fits : (z : ℤ) → SFits w16 (clamped z)
 unfolding clamped

@@ -1,0 +1,14 @@
+use native.Mathlib.Omega.{arith}
+use borrow.Author.Needs.{needs}
+use Rattle.fader.specs.Fader.{curveEntry}
+use Rattle.fader.proofs.CurveLaws.{rule}
+use Rattle.fader.proofs.curve.entry.Statement.{statement}
+use Rattle.fader.proofs.curve.entry.Tie as tie
+
+-- antt computes the list of the rule and finds the code's table in it
+returns : tie.Need-returns
+unfolding curveEntry
+returns c = rule curveEntry 1024 (c .args .level) (omega (arith, c .pre))
+
+pub entry-spec : {M : Type 1} → statement M
+entry-spec = tie.close (tie.spec (λ c. search needs) (λ c. search needs) returns)

@@ -1,0 +1,2 @@
+pub mod Fader
+pub mod FaderLaws

@@ -1,0 +1,19 @@
+-- Samples as bytes, faded in place (document 02, Card 3): the fading call on the samples that some bytes hold.
+use Prim.Native.Nat.{ℕ, _*_}
+use mathlib.Core.List.{List, _++_}
+use lib.ListN.{length, take, drop}
+use Rattle.pcm_bytes.specs.Pcm.{pcmBytes, pcmSamples}
+use Rattle.fader.specs.Fader.{FadeAnswer, curveEntry, fadedBy, fading}
+
+-- What the call answers on the samples of these bytes.
+abbrev pub pcmFading : (level : ℕ) → List ℕ → FadeAnswer
+pcmFading level bytes = fading level (pcmSamples bytes)
+
+-- "before touching any sample": refused, the lent bytes stay; else they are those of the faded samples, and an odd last byte stays
+abbrev pub bytesAfter : (lent : List ℕ) → FadeAnswer → List ℕ
+bytesAfter lent (FadeAnswer.refused n) = lent
+bytesAfter lent (FadeAnswer.gave xs) = pcmBytes xs ++ drop (2 * length xs) lent
+
+-- On the way: the first n samples are faded, the other bytes as they were.
+unfoldable pub firstFaded : (level n : ℕ) → List ℕ → List ℕ
+firstFaded level n bytes = pcmBytes (fadedBy (curveEntry level) (take n (pcmSamples bytes))) ++ drop (2 * n) bytes

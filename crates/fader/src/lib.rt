@@ -2,6 +2,7 @@
 use crate::curve::entry;
 ghost use mathlib.Core.Path.{_≡_};
 ghost use Prim.Native.Nat.{_≤_};
+ghost use Rattle.whole_numbers.specs.Whole.{floorDiv};
 ghost use Rattle.fader.specs.Fader.{faded, fadedBy, fading, fadeReply, samplesAfter};
 ghost use Rattle.fader.specs.FaderLaws.{FadedWithin, FaderCases};
 
@@ -17,13 +18,18 @@ pub enum FadeReply {
     Faded,
 }
 
-// The shift copies the sign: the quotient by 32,768 is rounded towards minus infinity.
+// The shift copies the sign: the quotient is rounded towards minus infinity.
+fn divided(product: i32) -> i32
+    ensures { λ q. ⌜ q ≡ floorDiv product 32768 ⌝ }
+{
+    product >> 15
+}
+
 fn fade_sample(x: i16, entry: u32) -> i16
     requires { ⌜ entry ≤ 32768 ⌝ }
     ensures { λ r. ⌜ r ≡ faded x entry ⌝ }
 {
-    let product = x as i32 * entry as i32;
-    (product >> 15) as i16
+    divided(x as i32 * entry as i32) as i16
 }
 
 fn fade_by(entry: u32, samples: &mut [i16])

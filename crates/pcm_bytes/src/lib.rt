@@ -48,13 +48,13 @@ pub fn get_pcm(bytes: &[u8], samples: &mut [i16]) -> usize
     ensures { λ n. ⌜ n ≡ min (length (now (samples .entry))) (length (now (bytes .entry)) / 2) ⌝ }
     ensures { λ n. ⌜ now (samples .exit) ≡ take n (pcmSamples (now (bytes .entry))) ++ drop n (now (samples .entry)) ⌝ }
 {
-    let n = fitting(samples.len(), bytes.len());
+    let count = fitting(samples.len(), bytes.len());
     let mut i: usize = 0;
-    while i < n {
+    while i < count {
         samples[i] = sample(bytes[2 * i], bytes[2 * i + 1]);
         i += 1;
     }
-    n
+    count
 }
 
 // Samples come back from their bytes.

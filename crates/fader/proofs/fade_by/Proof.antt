@@ -20,14 +20,14 @@ loop-again : tie.Need-loop-again Inv-loop μ-loop
 loop-again c =
     let t = c .before .before .before in
     let f : SFits w16 (getD (t .loop .samples) (t .loop .i) (pos 0)) = sfits-of (c .before .fade-sample-arg .given) in
-    fading-more (t .loop .inv) (c .before .before .loop-test .taken)
+    fading-more (t .loop .inv) (omega (arith, c .before .before .loop-test .taken))
     (simp (c .fade-sample .ensures, toZ-ofZ f, toZ-ofZ (faded-from _ _ f (t .before .pre) .fits)))
 
 same-length : tie.Need-same-length Inv-loop μ-loop
 same-length c = c .before .loop .inv .size
 
 returns : tie.Need-returns Inv-loop μ-loop
-returns c = fading-all (c .before .loop .inv) (c .loop-test .left)
+returns c = fading-all (c .before .loop .inv) (omega (arith, c .loop-test .left))
 
 pub fade-by-spec : {M : Type 1} → statement M
 fade-by-spec =

@@ -21,12 +21,12 @@ slice-aggregate-put-entry c = sym (putting-long (c .before .before .loop .inv))
 put-entry-requires : tie.Need-put-entry-requires Inv-loop μ-loop
 put-entry-requires c κs =
     let p = c .before .before .loop .inv in
-    (omega (arith, c .before .loop-test .taken), omega (arith, putting-room p (c .before .loop-test .taken), putting-long p))
+    (omega (arith, c .before .loop-test .taken), omega (arith, putting-room p (omega (arith, c .before .loop-test .taken)), putting-long p))
 
 loop-again : tie.Need-loop-again Inv-loop μ-loop
 loop-again c =
     let t = c .before .before .before in
-    putting-more (t .before .loop .inv) (t .loop-test .taken) (c .before .put-entry .ensures .0) (c .before .put-entry .ensures .1)
+    putting-more (t .before .loop .inv) (omega (arith, t .loop-test .taken)) (c .before .put-entry .ensures .0) (c .before .put-entry .ensures .1)
 
 add-at : tie.Need-add-at Inv-loop μ-loop
 add-at c = omega (arith, at-is (loop-again c), loop-again c .few)
@@ -38,7 +38,7 @@ loop-less : tie.Need-loop-less Inv-loop μ-loop
 loop-less c = omega (arith, c .before .before .before .loop-test .taken)
 
 returns : tie.Need-returns Inv-loop μ-loop
-returns c = putting-all (c .before .loop .inv) (c .loop-test .left)
+returns c = putting-all (c .before .loop .inv) (omega (arith, c .loop-test .left))
 
 pub curve-text-spec : {M : Type 1} → statement M
 curve-text-spec =

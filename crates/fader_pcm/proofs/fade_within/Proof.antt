@@ -38,7 +38,7 @@ returns : tie.Need-returns Inv-loop μ-loop
 returns c =
     let l = c .before .before .before .before .before .before .before in
     let e = c .before .before .before .before .fade-portion .ensures in
-    faded-all (l .loop .inv .0) _ (e .0) (e .1 .0) (l .before .before .before .pre) (l .loop .inv .1) (c .if1 .taken)
+    faded-all (l .loop .inv .0) _ (e .0) (e .1 .0) (l .before .before .before .pre) (l .loop .inv .1) (omega (arith, c .if1 .taken))
 
 loop-again : tie.Need-loop-again Inv-loop μ-loop
 loop-again c =

@@ -54,10 +54,10 @@ pub fn fade_pcm(level: usize, bytes: &mut [u8]) -> FadeReply
     let mut none = [0i16; 0];
     let reply = fade(level, &mut none);
     match reply {
-        FadeReply::Refused(_) => {}
+        FadeReply::Refused(n) => FadeReply::Refused(n),
         FadeReply::Faded => {
             fade_within(level, bytes);
+            FadeReply::Faded
         }
     }
-    reply
 }

@@ -1,20 +1,20 @@
--- A faded sample, and samples faded one after the other.
-use Prim.Native.Nat.{ℕ, zero, suc, _+_, _*_, _/_, _≤_, _<_}
+-- A faded sample, samples faded one after the other, and the call.
+use Prim.Native.Nat.{ℕ, zero, suc, _+_, _*_, _≤_, _<_}
 use mathlib.Core.Path.{_≡_, refl, sym, ap, _∙_}
-use mathlib.Core.List.{List, [], _∷_, _++_, map, append-assoc, append-nil}
+use mathlib.Core.List.{List, [], _∷_, _++_, append-assoc, append-nil}
 use native.Mathlib.Nat.{mul-zero}
 use native.Mathlib.Omega.{arith}
 use native.Mathlib.Numerals.{add-one}
 use lib.ListN.{length, getD, take, drop, set, length-set, length-map, drop-of-length-le}
 use lib.Seq.{take-suc-set, drop-set-lt, drop-cons, take-all}
-use lib.IntN.{ℤ, pos, negsuc, negℤ, natAbs, _*ℤ_}
+use lib.Dec.{ltb}
+use lib.IntN.{ℤ, pos, negsuc, negℤ, _*ℤ_}
 use mir.Syntax.{w16, w32}
 use mir.Val.{SFits}
-use Rattle.whole_numbers.specs.Whole.{floorDiv}
-use Rattle.whole_numbers.proofs.WholeLaws.{abs-product, abs16, fits-in, mul-bound}
-use lib.Dec.{ltb}
 use borrow.Author.Tests.{lt-ltb, le-ltb, ltb-true, ltb-false}
 use Rattle.layout.proofs.Cases.{by-cases}
+use Rattle.whole_numbers.specs.Whole.{floorDiv}
+use Rattle.whole_numbers.proofs.WholeLaws.{abs-product, abs16, fits-in, mul-bound}
 use Rattle.fader.specs.Fader.{FadeAnswer, levelLimit, curveEntry, faded, fadedBy, fading, fadeReply}
 use Rattle.fader.specs.declared.FadeReply.{FadeReply}
 use Rattle.fader.specs.FaderLaws.{FadedFrom}

@@ -12,8 +12,7 @@ use Rattle.layout.proofs.Cases.{by-cases}
 use Rattle.layout.proofs.PutLaws.{Put, put-then, putAt-none, putAt-whole, putAt-length}
 use Rattle.key_lines.specs.Lines.{column}
 use Rattle.key_lines.proofs.ColumnLaws.{column-length}
-use Rattle.fader.specs.Fader.{levelLimit, curveEntry}
-use Rattle.fader.proofs.CurveLaws.{square-bound}
+use Rattle.fader.specs.Fader.{curveEntry}
 use Rattle.fader_curve.specs.CurveText.{entryText, textOf, curveText}
 
 -- ---- An entry

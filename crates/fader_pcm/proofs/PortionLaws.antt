@@ -1,14 +1,14 @@
 -- Samples as bytes, faded portion after portion.
-use Prim.Native.Nat.{ℕ, _+_, _-_, _*_, _/_, _≤_, min}
+use Prim.Native.Nat.{ℕ, _+_, _-_, _*_, _/_, _%_, _≤_, min}
 use mathlib.Core.Path.{_≡_, refl, sym, ap, _∙_}
 use mathlib.Core.List.{List, [], _++_, append-assoc, append-nil}
 use native.Mathlib.Omega.{arith}
 use lib.ListN.{length, take, drop, length-append, length-drop, drop-of-length-le}
-use lib.Seq.{length-take-le, take-at, drop-at, take-add, take-all, drop-drop}
+use lib.Seq.{length-take-le, take-at, drop-at, take-add, take-all, drop-drop, drop-append-seam}
 use lib.IntN.{ℤ}
 use Rattle.pcm_bytes.specs.Pcm.{pcmBytes, pcmSamples}
 use Rattle.pcm_bytes.proofs.PcmLaws.{pcm-length, pcm-append}
-use Rattle.pcm_bytes.proofs.GotLaws.{samples-length, samples-from}
+use Rattle.pcm_bytes.proofs.GotLaws.{samples-length, samples-append, samples-from}
 use Rattle.fader.specs.Fader.{levelLimit, curveEntry, fadedBy, fading, samplesAfter}
 use Rattle.fader.proofs.FadeLaws.{faded-length, faded-append, within}
 use Rattle.fader_pcm.specs.FadedPcm.{pcmFading, bytesAfter, firstFaded}
@@ -147,3 +147,26 @@ module _ {level : ℕ} {before after : List ℕ} {at : ℕ} (p : Faded level bef
         let q : p .count + n ≡ length xs = omega (arith, left, c, p .two, samples-length before) in
         rw (within level xs low, faded-length (curveEntry level) xs)
         (rw (q, take-all (length xs) xs (omega arith)) at more-is)
+
+-- ---- Whole inputs
+
+after-is : (level : ℕ) (bytes : List ℕ) → level ≤ levelLimit
+    → bytesAfter bytes (pcmFading level bytes) ≡ pcmBytes (fadedBy (curveEntry level) (pcmSamples bytes)) ++ drop (2 * length (pcmSamples bytes)) bytes
+after-is level bytes h = rw (within level (pcmSamples bytes) h, faded-length (curveEntry level) (pcmSamples bytes))
+
+pub portions : (level : ℕ) → level ≤ levelLimit → (first rest : List ℕ) → length first % 2 ≡ 0
+    → bytesAfter (first ++ rest) (pcmFading level (first ++ rest)) ≡ bytesAfter first (pcmFading level first) ++ bytesAfter rest (pcmFading level rest)
+portions level h first rest even =
+    let e = curveEntry level in
+    let xs = pcmSamples first in
+    let ys = pcmSamples rest in
+    let both = samples-append first rest even in
+    let bytes : pcmBytes (fadedBy e (pcmSamples (first ++ rest))) ≡ pcmBytes (fadedBy e xs) ++ pcmBytes (fadedBy e ys) =
+    ap (λ (l : List ℤ). pcmBytes (fadedBy e l)) both ∙ ap pcmBytes (faded-append e xs ys) ∙ pcm-append (fadedBy e xs) (fadedBy e ys) in
+    let count : 2 * length (pcmSamples (first ++ rest)) ≡ length first + 2 * length ys =
+    omega (arith, ap length both, length-append xs ys, samples-length first) in
+    let none : drop (2 * length xs) first ≡ [] = drop-of-length-le first {i = 2 * length xs} (omega (arith, samples-length first)) in
+    let left : drop (2 * length (pcmSamples (first ++ rest))) (first ++ rest) ≡ drop (2 * length ys) rest =
+    ap (λ (n : ℕ). drop n (first ++ rest)) count ∙ sym (drop-drop (2 * length ys) (length first) (first ++ rest)) ∙ ap (drop (2 * length ys)) (drop-append-seam first rest) in
+    rw (after-is level (first ++ rest) h, after-is level first h, after-is level rest h, bytes, left, none, append-nil (pcmBytes (fadedBy e xs)))
+    (append-assoc (pcmBytes (fadedBy e xs)) (pcmBytes (fadedBy e ys)) (drop (2 * length ys) rest))

@@ -7,7 +7,7 @@ ghost use Prim.Native.Nat.{_/_, _≤_, min};
 ghost use mathlib.Core.Path.{_≡_};
 ghost use lib.ListN.{length};
 ghost use Rattle.fader.specs.Fader.{levelLimit, fadeReply};
-ghost use Rattle.fader_pcm.specs.FadedPcm.{pcmFading, bytesAfter, firstFaded};
+ghost use Rattle.fader_pcm.specs.FadedPcm.{pcmFading, bytesAfter, PortionsFaded, firstFaded};
 
 // So many samples at a time.
 const PORTION: usize = 4096;
@@ -61,3 +61,8 @@ pub fn fade_pcm(level: usize, bytes: &mut [u8]) -> FadeReply
         }
     }
 }
+
+// Portions of whole samples come to the whole.
+pub fn portions_faded()
+    ensures { λ _. ⌜ PortionsFaded ⌝ }
+{}

@@ -21,6 +21,13 @@ samples-length [] = refl
 samples-length (low ∷ []) = refl
 samples-length (low ∷ high ∷ bytes) = omega (arith, samples-length bytes)
 
+-- those of whole samples, and then those of the rest
+pub samples-append : (first rest : List ℕ) → length first % 2 ≡ 0 → pcmSamples (first ++ rest) ≡ pcmSamples first ++ pcmSamples rest
+unfolding pcmSamples
+samples-append [] rest h = refl
+samples-append (low ∷ []) rest h = absurd (omega arith)
+samples-append (low ∷ high ∷ first) rest h = ap (λ (xs : List ℤ). toZ w16 (low + 256 * high) ∷ xs) (samples-append first rest (omega arith))
+
 -- the sample of this number
 pub sample-at : (bytes : List ℕ) (i : ℕ) → 2 * i + 1 < length bytes → getD (pcmSamples bytes) i (pos 0) ≡ toZ w16 (getD bytes (2 * i) 0 + 256 * getD bytes (2 * i + 1) 0)
 unfolding pcmSamples

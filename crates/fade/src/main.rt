@@ -93,18 +93,18 @@ fn fade_some(level: usize, room: &mut [u8], held: usize) -> Turn
     }
 }
 
-// A proved loop has to end, and nothing says that an input does: it counts its turns down, from a number that no run uses up.
+// Portion after portion. That it ends is proved by the count of what may still come: more portions than any input has.
 fn fade_all(level: usize) {
     let mut room = large_buffer();
     let mut held: usize = 0;
-    let mut turns = u64::MAX;
-    while turns > 0 {
+    let mut portions = u64::MAX;
+    while portions > 0 {
         let turn = fade_some(level, &mut room, held);
         if !turn.more {
             return;
         }
         held = turn.held;
-        turns -= 1;
+        portions -= 1;
     }
 }
 

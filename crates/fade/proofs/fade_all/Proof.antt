@@ -7,16 +7,16 @@ use Rattle.fade.proofs.fade_all.Statement.{statement}
 use Rattle.fade.proofs.fade_all.Tie as tie
 
 abbrev Inv-loop : tie.InvT-loop
-Inv-loop level room₀ held₀ turns₀ room held turns = (length room ≡ 65536) × (held ≤ 1)
+Inv-loop level room₀ held₀ portions₀ room held portions = (length room ≡ 65536) × (held ≤ 1)
 
 abbrev μ-loop : tie.MeasureT-loop
-μ-loop level room₀ held₀ turns₀ room held turns = turns
+μ-loop level room₀ held₀ portions₀ room held portions = portions
 
 loop-holds : tie.Need-loop-holds Inv-loop μ-loop
 loop-holds c = (sym (c .large-buffer .ensures), omega arith)
 
-sub-turns : tie.Need-sub-turns Inv-loop μ-loop
-sub-turns c = omega (arith, c .before .before .before .before .before .loop-test .taken)
+sub-portions : tie.Need-sub-portions Inv-loop μ-loop
+sub-portions c = omega (arith, c .before .before .before .before .before .loop-test .taken)
 
 loop-less : tie.Need-loop-less Inv-loop μ-loop
 loop-less c = omega (arith, c .before .before .before .before .before .loop-test .taken)
@@ -37,7 +37,7 @@ fade-all-spec =
     (λ c. sym (c .before .before .loop .inv .0))
     (λ c κs. c .before .before .loop .inv)
     (λ c. search needs)
-    sub-turns
+    sub-portions
     loop-less
     loop-again
     (λ c. search needs))

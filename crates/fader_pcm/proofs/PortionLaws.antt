@@ -160,7 +160,7 @@ portions level h first rest even =
     let e = curveEntry level in
     let xs = pcmSamples first in
     let ys = pcmSamples rest in
-    let both = samples-append first rest even in
+    let both = samples-append first rest (omega (arith, even)) in
     let bytes : pcmBytes (fadedBy e (pcmSamples (first ++ rest))) ≡ pcmBytes (fadedBy e xs) ++ pcmBytes (fadedBy e ys) =
     ap (λ (l : List ℤ). pcmBytes (fadedBy e l)) both ∙ ap pcmBytes (faded-append e xs ys) ∙ pcm-append (fadedBy e xs) (fadedBy e ys) in
     let count : 2 * length (pcmSamples (first ++ rest)) ≡ length first + 2 * length ys =

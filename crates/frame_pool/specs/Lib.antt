@@ -1,0 +1,3 @@
+pub mod FramePool
+pub mod HighestFree
+pub mod FrameLists

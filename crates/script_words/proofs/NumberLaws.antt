@@ -1,7 +1,7 @@
 -- A decimal read digit by digit.
 use Prim.Native.Nat.{ℕ, zero, suc, _+_, _-_, _*_, _<_, _≤_}
 use mathlib.Core.Path.{_≡_, refl, ap, sym, _∙_}
-use mathlib.Core.Bool.{true}
+use mathlib.Core.Bool.{true, false}
 use mathlib.Core.List.{List, [], _∷_}
 use native.Mathlib.Omega.{arith}
 use native.Mathlib.Numerals.{add-one}
@@ -12,7 +12,7 @@ use borrow.Author.Tests.{le-leb, lt-leb, eq-eqb, ne-eqb}
 use mir.Syntax.{w16}
 use mir.Val.{toZ}
 use mir.ValLaws.{toZ-pos, toZ-neg}
-use Rattle.script_words.specs.Numbers.{noNumber, decimalFrom, decimalOf, under, below0, from0, smallOf}
+use Rattle.script_words.specs.Numbers.{noNumber, decimalFrom, decimalOf, digitsAlone, isDecimal, under, below0, from0, smallOf}
 use Rattle.script_words.specs.declared.numbers.Number.{Number}
 use Rattle.script_words.specs.declared.numbers.Small.{Small}
 
@@ -69,6 +69,45 @@ unfolding decimalFrom
 all {word = word} {i = i} r h =
     let e : i ≡ length word = omega (arith, r .few) in
     (sym (r .is ∙ rw (e, drop-length)), r .small)
+
+-- ---- Digits alone
+
+-- The first i bytes of a word are digits.
+pub record Digits (word : List ℕ) (i : ℕ) : Type 0 where
+  pub few : i ≤ length word
+  pub is : isDecimal word ≡ digitsAlone (drop i word)
+
+pub digits-none : (word : List ℕ) → (length word ≡ 0 → ⊥) → Digits word 0
+unfolding isDecimal
+digits-none [] h = absurd (h refl)
+digits-none (b ∷ bs) h = record { few = omega arith; is = refl }
+
+pub no-digits : (word : List ℕ) → length word ≡ 0 → false ≡ isDecimal word
+unfolding isDecimal
+no-digits [] h = refl
+no-digits (b ∷ bs) h = absurd (omega arith)
+
+module _ {word : List ℕ} {i : ℕ} (r : Digits word i) (h : i < length word) where
+  next-digit : isDecimal word ≡ digitsAlone (getD word i 0 ∷ drop (suc i) word)
+  next-digit = r .is ∙ rw (drop-cons word i 0)
+
+  pub digits-low : getD word i 0 < 48 → false ≡ isDecimal word
+  unfolding digitsAlone
+  digits-low t = sym (next-digit ∙ rw (lt-leb 48 (getD word i 0) t))
+
+  pub digits-high : 48 ≤ getD word i 0 → 57 < getD word i 0 → false ≡ isDecimal word
+  unfolding digitsAlone
+  digits-high s t = sym (next-digit ∙ rw (le-leb 48 (getD word i 0) s, lt-leb (getD word i 0) 57 t))
+
+  pub digits-more : 48 ≤ getD word i 0 → getD word i 0 ≤ 57 → Digits word (i + 1)
+  unfolding digitsAlone
+  digits-more s t = record { few = omega arith; is = next-digit ∙ rw (le-leb 48 (getD word i 0) s, le-leb (getD word i 0) 57 t, add-one) }
+
+pub digits-all : {word : List ℕ} {i : ℕ} → Digits word i → length word ≤ i → true ≡ isDecimal word
+unfolding digitsAlone
+digits-all {word = word} {i = i} r h =
+    let e : i ≡ length word = omega (arith, r .few) in
+    sym (r .is ∙ rw (e, drop-length))
 
 -- ---- Numbers with a sign
 

@@ -2,15 +2,15 @@
 use Prim.Native.Nat.{ℕ, zero, suc, _+_, _-_, _<_, _≤_}
 use mathlib.Core.Path.{_≡_, refl, ap, sym, _∙_}
 use mathlib.Core.Bool.{Bool, true, false, not, Bool·beq}
-use mathlib.Core.List.{List, [], _∷_}
+use mathlib.Core.List.{List, [], _∷_, _++_}
 use native.Mathlib.Omega.{arith}
 use native.Mathlib.Numerals.{add-one}
-use lib.ListN.{length, getD, take, drop, length-take, length-drop, drop-of-length-le}
+use lib.ListN.{length, getD, take, drop, length-take, length-drop, length-append, drop-of-length-le}
 use lib.Seq.{drop-cons, drop-length, drop-drop}
 use Rattle.layout.specs.Choice.{pick, _and_}
 use Rattle.layout.specs.Lists.{firstIndex}
 use Rattle.layout.proofs.Cases.{by-cases}
-use Rattle.script_words.specs.Texts.{endsLine, startsComment, uncommented, lineOf, linesAfter, onto, parted, linesOf, isBlank, isLetter, fromWord}
+use Rattle.script_words.specs.Texts.{endsLine, startsComment, uncommented, wholeLine, lineOf, linesAfter, onto, parted, linesOf, isBlank, isLetter, fromWord}
 use Rattle.script_words.specs.Texts.{firstWord, afterWord, wordFrom, wordsFrom, wordCount}
 
 -- ---- A scan for the first byte that passes a test
@@ -47,12 +47,21 @@ pub comment-at : (l : List ℕ) {n : ℕ} → n ≡ 0 + firstIndex startsComment
 unfolding uncommented
 comment-at l {n} e = let f : n ≡ firstIndex startsComment l = omega arith in rw f
 
+pub parted-none : parted [] ≡ []
+unfolding parted
+parted-none = refl
+
 pub lines-none : linesOf [] ≡ []
 unfolding linesOf parted
 lines-none = refl
 
+onto-append : (b : ℕ) (ls ms : List (List ℕ)) → 0 < length ls → onto b (ls ++ ms) ≡ onto b ls ++ ms
+unfolding onto
+onto-append b [] ms h = absurd (omega arith)
+onto-append b (l ∷ ls) ms h = refl
+
 -- A text is its first line and the lines of the rest.
-parted-next : (s : List ℕ) → 0 < length s → parted s ≡ take (firstIndex endsLine s) s ∷ parted (linesAfter s)
+pub parted-next : (s : List ℕ) → 0 < length s → parted s ≡ wholeLine s ∷ parted (linesAfter s)
 unfolding parted linesAfter onto firstIndex
 parted-next [] h = absurd (omega arith)
 parted-next (b ∷ []) h = by-cases (endsLine b) (λ t. rw t) (λ t. rw t)
@@ -61,14 +70,26 @@ parted-next (b ∷ c ∷ cs) h =
     (λ t. rw t)
     (λ t. rw (t, parted-next (c ∷ cs) (omega arith)))
 
+parted-some : (s : List ℕ) → 0 < length s → 0 < length (parted s)
+parted-some s h = rw (parted-next s h) (omega arith)
+
+-- A text that ends its last line, and one behind it.
+pub parted-append : (s t : List ℕ) → parted ((s ++ (10 ∷ [])) ++ t) ≡ parted (s ++ (10 ∷ [])) ++ parted t
+unfolding parted
+parted-append [] t = refl
+parted-append (b ∷ bs) t =
+    by-cases (endsLine b)
+    (λ e. rw (e, parted-append bs t))
+    (λ e. rw (e, parted-append bs t) (onto-append b (parted (bs ++ (10 ∷ []))) (parted t) (parted-some (bs ++ (10 ∷ [])) (omega (arith, length-append bs (10 ∷ []))))))
+
 pub lines-next : (s : List ℕ) → (0 < length s) → linesOf s ≡ lineOf s ∷ linesOf (linesAfter s)
 unfolding linesOf lineOf
 lines-next s h = rw (parted-next s h)
 
 -- Past the end there is no line.
 module _ (s : List ℕ) (at : ℕ) (h : length s ≤ at) where
-  pub line-none : [] ≡ lineOf (drop at s)
-  unfolding lineOf uncommented firstIndex
+  pub line-none : [] ≡ wholeLine (drop at s)
+  unfolding firstIndex
   line-none = rw (drop-of-length-le s {i = at} h)
 
   pub next-none : drop (length s) s ≡ linesAfter (drop at s)
@@ -77,8 +98,7 @@ module _ (s : List ℕ) (at : ℕ) (h : length s ≤ at) where
 
 -- A line and where it ends.
 module _ (s : List ℕ) (at : ℕ) {end : ℕ} (e : Stop endsLine s at end) where
-  pub line-some : uncommented (take (end - at) (drop at s)) ≡ lineOf (drop at s)
-  unfolding lineOf
+  pub line-some : take (end - at) (drop at s) ≡ wholeLine (drop at s)
   line-some = let f : end - at ≡ firstIndex endsLine (drop at s) = omega arith in rw f
 
   pub next-some : drop (end + 1) s ≡ linesAfter (drop at s)

@@ -1,6 +1,6 @@
 -- Decimals within a range.
 use Prim.Native.Nat.{ℕ, zero, suc, _+_, _-_, _*_}
-use mathlib.Core.Bool.{true, false}
+use mathlib.Core.Bool.{Bool, true, false}
 use mathlib.Core.List.{List, [], _∷_}
 use lib.Dec.{leb, eqb}
 use lib.IntN.{ℤ, pos, negsuc}
@@ -21,6 +21,15 @@ decimalFrom max v (b ∷ bs) = pick (leb 48 b and leb b 57 and leb (10 * v + (b 
 unfoldable pub decimalOf : (max : ℕ) → List ℕ → Number
 decimalOf max [] = noNumber
 decimalOf max (b ∷ bs) = decimalFrom max 0 (b ∷ bs)
+
+-- Digits alone, one at least: a decimal of any length.
+unfoldable pub digitsAlone : List ℕ → Bool
+digitsAlone [] = true
+digitsAlone (b ∷ bs) = leb 48 b and leb b 57 and digitsAlone bs
+
+unfoldable pub isDecimal : List ℕ → Bool
+isDecimal [] = false
+isDecimal (b ∷ bs) = digitsAlone (b ∷ bs)
 
 -- The number n below 0; 0 has no sign.
 abbrev pub under : ℕ → ℤ

@@ -21,9 +21,13 @@ startsComment b = eqb b 35
 unfoldable pub uncommented : List ℕ → List ℕ
 uncommented l = take (firstIndex startsComment l) l
 
--- The first line of a text.
+-- The first line of a text, with its comment.
+abbrev pub wholeLine : List ℕ → List ℕ
+wholeLine s = take (firstIndex endsLine s) s
+
+-- The same without it.
 unfoldable pub lineOf : List ℕ → List ℕ
-lineOf s = uncommented (take (firstIndex endsLine s) s)
+lineOf s = uncommented (wholeLine s)
 
 -- The text after its first line.
 unfoldable pub linesAfter : List ℕ → List ℕ

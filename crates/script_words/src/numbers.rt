@@ -1,7 +1,7 @@
 // Decimals within their type's range.
 ghost use mathlib.Core.Path.{_≡_};
 ghost use Prim.Native.Nat.{_≤_};
-ghost use Rattle.script_words.specs.Numbers.{noNumber, decimalOf, below0, smallOf};
+ghost use Rattle.script_words.specs.Numbers.{noNumber, decimalOf, isDecimal, below0, smallOf};
 
 // 0 where the word is no number or over the range.
 pub struct Number {
@@ -52,6 +52,26 @@ pub fn unsigned(word: &[u8], max: u64) -> Number
         i += 1;
     }
     Number { good: true, value }
+}
+
+// Digits alone, one at least: a decimal of any length.
+pub fn is_decimal(word: &[u8]) -> bool
+    ensures { λ r. ⌜ r ≡ isDecimal (now (word .entry)) ⌝ }
+{
+    if word.len() == 0 {
+        return false;
+    }
+    let mut i: usize = 0;
+    while i < word.len() {
+        if word[i] < 48 {
+            return false;
+        }
+        if word[i] > 57 {
+            return false;
+        }
+        i += 1;
+    }
+    true
 }
 
 // A negative number: the one below it, turned over.

@@ -4,7 +4,7 @@ ghost use Prim.Native.Nat.{_+_, _<_, _≤_};
 ghost use lib.ListN.{length, drop};
 ghost use Rattle.layout.specs.Lists.{firstIndex};
 ghost use lib.Dec.{eqb};
-ghost use Rattle.script_words.specs.Texts.{isBlank, stops, uncommented, lineOf, linesAfter, wordFrom, wordCount};
+ghost use Rattle.script_words.specs.Texts.{isBlank, stops, uncommented, wholeLine, lineOf, linesAfter, wordFrom, wordCount};
 
 // The first place of a byte from here on, or the end.
 fn find(s: &[u8], from: usize, byte: u8) -> usize
@@ -29,15 +29,22 @@ fn without_comment<'a>(line: &'a [u8]) -> &'a [u8]
     &line[..n]
 }
 
-// The line that starts here, without its comment.
-pub fn line_at<'a>(s: &'a [u8], at: usize) -> &'a [u8]
-    ensures { λ r. ⌜ now r ≡ lineOf (drop at (now (s .entry))) ⌝ }
+// The line that starts here, with its comment.
+pub fn whole_line_at<'a>(s: &'a [u8], at: usize) -> &'a [u8]
+    ensures { λ r. ⌜ now r ≡ wholeLine (drop at (now (s .entry))) ⌝ }
 {
     if at >= s.len() {
         return &s[..0];
     }
     let end = find(s, at, b'\n');
-    without_comment(&s[at..end])
+    &s[at..end]
+}
+
+// The same without it.
+pub fn line_at<'a>(s: &'a [u8], at: usize) -> &'a [u8]
+    ensures { λ r. ⌜ now r ≡ lineOf (drop at (now (s .entry))) ⌝ }
+{
+    without_comment(whole_line_at(s, at))
 }
 
 // Where the line after it starts.

@@ -1,4 +1,3 @@
-use mathlib.Core.Path.{ap}
 use borrow.Author.Needs.{needs}
 use Rattle.frame_pool.proofs.outnumber.Statement.{statement}
 use Rattle.frame_pool.proofs.outnumber.Tie as tie

@@ -21,7 +21,7 @@ returns : tie.Need-returns Inv-loop μ-loop
 returns c =
     let b = c .before .before .before in
     let i = b .loop .i in
-    sym (b .loop .inv .1 ∙ highest-hit _ (15 - i) (frameCount - i) (omega arith) (c .if1 .taken))
+    sym (b .loop .inv .1 ∙ highest-hit _ _ (frameCount - i) (omega arith) (c .if1 .taken))
 
 loop-again : tie.Need-loop-again Inv-loop μ-loop
 loop-again c =

@@ -1,24 +1,12 @@
-use mathlib.Core.Path.{_∙_}
-use Rattle.script_words.proofs.TextLaws.{line-none, line-some}
+use mathlib.Core.Path.{ap, _∙_}
 use borrow.Author.Needs.{needs}
+use Rattle.script_words.specs.Texts.{uncommented, lineOf}
 use Rattle.script_words.proofs.text.line_at.Statement.{statement}
 use Rattle.script_words.proofs.text.line_at.Tie as tie
 
 returns : tie.Need-returns
-returns c = line-none _ _ (c .before .if1 .taken)
-
-returns-2 : tie.Need-returns-2
-returns-2 c = c .without-comment .ensures ∙ line-some _ _ (c .before .before .find .ensures)
+unfolding lineOf
+returns c = c .without-comment .ensures ∙ ap uncommented (c .before .whole-line-at .ensures)
 
 pub line-at-spec : {M : Type 1} → statement M
-line-at-spec =
-    tie.close
-    (tie.spec
-    (λ c. search needs)
-    returns
-    (λ c κs. search needs)
-    (λ c. search needs)
-    (λ c. search needs)
-    (λ c. search needs)
-    (λ c κs. search needs)
-    returns-2)
+line-at-spec = tie.close (tie.spec (λ c κs. search needs) (λ c κs. search needs) returns)

@@ -1,0 +1,2 @@
+pub mod SaysLaws
+pub mod AnswerLaws

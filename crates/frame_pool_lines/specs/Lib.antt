@@ -1,0 +1,2 @@
+pub mod PoolLines
+pub mod PoolText

@@ -1,0 +1,60 @@
+-- What `bin/pool` prints (document 02, Card 4): the answers to the lines of a text, one a line, up to the first line that says no call.
+use Prim.Native.Nat.{ℕ, _/_}
+use mathlib.Core.Path.{_≡_}
+use mathlib.Core.Bool.{false}
+use mathlib.Core.List.{List, [], _∷_, _++_}
+use lib.ListN.{length}
+use lib.Dec.{leb}
+use Rattle.layout.specs.Choice.{pick}
+use Rattle.script_words.specs.Texts.{parted}
+use Rattle.frame_pool.specs.FrameLists.{PoolCall, poolAfter}
+use Rattle.frame_pool_lines.specs.PoolLines.{saidBy, callAnswer, afterSaid, newProgress}
+use Rattle.frame_pool_lines.specs.declared.says.SaidCall.{SaidCall}
+use Rattle.frame_pool_lines.specs.declared.Progress.{Progress}
+use Rattle.frame_pool_lines.specs.declared.Answered.{Answered}
+
+-- ---- The lines one after the other: "prints for each a line", and after a line that says no call "nothing more"
+
+unfoldable pub answersFrom : Progress → List (List ℕ) → List ℕ
+answersFrom g [] = []
+answersFrom g (l ∷ ls) = pick (g .ended) [] (callAnswer g (saidBy l) ++ answersFrom (afterSaid g (saidBy l)) ls)
+
+unfoldable pub progressFrom : Progress → List (List ℕ) → Progress
+progressFrom g [] = g
+progressFrom g (l ∷ ls) = pick (g .ended) g (progressFrom (afterSaid g (saidBy l)) ls)
+
+-- Of a whole text.
+abbrev pub poolText : List ℕ → List ℕ
+poolText text = answersFrom newProgress (parted text)
+
+-- ---- Text and answers in lent buffers
+
+-- A line has a byte at least, and an answer 16 at most: with so much room for a text of this length nothing is left out. With less nothing is answered.
+abbrev pub answersIn : (room : ℕ) → Progress → (text : List ℕ) → List ℕ
+answersIn room g text = pick (leb (length text) (room / 16)) (answersFrom g (parted text)) []
+
+abbrev pub answeredIn : (room : ℕ) → Progress → (text : List ℕ) → Answered
+answeredIn room g text = record { progress = pick (leb (length text) (room / 16)) (progressFrom g (parted text)) g; length = length (answersIn room g text) }
+
+-- ---- What holds of it
+
+-- The calls that some lines say, up to the first that says none.
+abbrev pub thenCalls : SaidCall → List PoolCall → List PoolCall
+thenCalls (SaidCall.Take d) cs = PoolCall.takes d ∷ cs
+thenCalls (SaidCall.Give d f) cs = PoolCall.gives d f ∷ cs
+thenCalls SaidCall.Neither cs = []
+
+unfoldable pub callsSaid : List (List ℕ) → List PoolCall
+callsSaid [] = []
+callsSaid (l ∷ ls) = thenCalls (saidBy l) (callsSaid ls)
+
+-- So the lines' pool is that of a list of calls, of which FrameLists speaks.
+unfoldable pub LinesAreCalls : Type 0
+LinesAreCalls = (g : Progress) (ls : List (List ℕ)) → g .ended ≡ false → progressFrom g ls .pool ≡ poolAfter (g .pool) (callsSaid ls)
+
+-- Portions that end with a line come to the whole: 10 is the newline.
+pub record PortionsAnswered : Type 0 where
+  pub answers : (g : Progress) (text more : List ℕ) → (let s = text ++ (10 ∷ []) in
+      answersFrom g (parted (s ++ more)) ≡ answersFrom g (parted s) ++ answersFrom (progressFrom g (parted s)) (parted more))
+  pub progress : (g : Progress) (text more : List ℕ) → (let s = text ++ (10 ∷ []) in
+      progressFrom g (parted (s ++ more)) ≡ progressFrom (progressFrom g (parted s)) (parted more))

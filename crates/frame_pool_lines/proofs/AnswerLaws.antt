@@ -4,7 +4,7 @@ use mathlib.Core.Path.{_≡_, refl, sym, ap, _∙_}
 use mathlib.Core.Bool.{true, false}
 use mathlib.Core.List.{List, [], _∷_, _++_, append-assoc, append-nil}
 use native.Mathlib.Omega.{arith}
-use lib.ListN.{length, drop, length-append, length-drop, drop-of-length-le}
+use lib.ListN.{length, take, drop, length-append, length-drop, drop-of-length-le}
 use borrow.Author.Tests.{le-leb, lt-leb}
 use Rattle.layout.specs.Choice.{pick}
 use Rattle.layout.specs.Puts.{putAt}
@@ -14,8 +14,8 @@ use Rattle.layout.proofs.PutLaws.{Put, put-then, putAt-none, putAt-length}
 use Rattle.key_lines.specs.Lines.{column, columnsBytes, LinePut}
 use Rattle.key_lines.specs.declared.Column.the-variants.{Number}
 use Rattle.key_lines.proofs.ColumnLaws.{column-length}
-use Rattle.script_words.specs.Texts.{wholeLine, linesAfter, parted}
-use Rattle.script_words.proofs.TextLaws.{parted-none, parted-next, parted-append}
+use Rattle.script_words.specs.Texts.{wholeLine, linesAfter, wholeLines, parted}
+use Rattle.script_words.proofs.TextLaws.{parted-none, parted-next, parted-few, parted-whole}
 use Rattle.frame_pool.specs.FramePool.{takeOf, giveOf}
 use Rattle.frame_pool.specs.FrameLists.{poolAfter}
 use Rattle.frame_pool.specs.declared.DecoderId.{DecoderId}
@@ -47,6 +47,20 @@ answer-short : (g : Progress) (s : SaidCall) → length (callAnswer g s) ≤ 16
 answer-short g (SaidCall.Take d) = take-short (takeOf (g .pool) d .reply)
 answer-short g (SaidCall.Give d f) = give-short (giveOf (g .pool) d f .reply)
 answer-short g SaidCall.Neither = omega (arith, number-line (g .number))
+
+lines-short : (g : Progress) (ls : List (List ℕ)) → length (answersFrom g ls) ≤ 16 * length ls
+unfolding answersFrom
+lines-short g [] = omega arith
+lines-short g (l ∷ ls) =
+    let x = callAnswer g (saidBy l) in
+    let y = answersFrom (afterSaid g (saidBy l)) ls in
+    by-cases (g .ended)
+    (λ t. rw (picks-first [] (x ++ y) t) (omega arith))
+    (λ t. rw (picks-second [] (x ++ y) t) (omega (arith, length-append x y, answer-short g (saidBy l), lines-short (afterSaid g (saidBy l)) ls)))
+
+-- so the answers to a text have a room
+pub answers-few : (g : Progress) (text : List ℕ) → length (answersFrom g (parted text)) ≤ 16 * length text
+answers-few g text = omega (arith, lines-short g (parted text), parted-few text)
 
 -- ---- A call and its answer
 
@@ -145,13 +159,13 @@ module _ {g : Progress} {text before after : List ℕ} {p : Progress} {n at : �
         let rest = parted (linesAfter (drop at text)) in
         let t = saidBy (wholeLine (drop at text)) in
         let given : answersFrom p (parted (drop at text)) ≡ x ++ answersFrom (r .progress) (parted (drop next text)) =
-            ap (answersFrom p) next-parted ∙ picks-second [] (callAnswer p t ++ answersFrom (afterSaid p t) rest) e
-            ∙ ap (λ (u : SaidCall). callAnswer p u ++ answersFrom (afterSaid p u) rest) (sym said) ∙ ap (λ (z : Progress). x ++ answersFrom z rest) (sym (c .progress))
-            ∙ ap (λ (m : List ℕ). x ++ answersFrom (r .progress) (parted m)) (sym d) in
+        ap (answersFrom p) next-parted ∙ picks-second [] (callAnswer p t ++ answersFrom (afterSaid p t) rest) e
+        ∙ ap (λ (u : SaidCall). callAnswer p u ++ answersFrom (afterSaid p u) rest) (sym said) ∙ ap (λ (z : Progress). x ++ answersFrom z rest) (sym (c .progress))
+        ∙ ap (λ (m : List ℕ). x ++ answersFrom (r .progress) (parted m)) (sym d) in
         let left : progressFrom p (parted (drop at text)) ≡ progressFrom (r .progress) (parted (drop next text)) =
-            ap (progressFrom p) next-parted ∙ picks-second p (progressFrom (afterSaid p t) rest) e
-            ∙ ap (λ (u : SaidCall). progressFrom (afterSaid p u) rest) (sym said) ∙ ap (λ (z : Progress). progressFrom z rest) (sym (c .progress))
-            ∙ ap (λ (m : List ℕ). progressFrom (r .progress) (parted m)) (sym d) in
+        ap (progressFrom p) next-parted ∙ picks-second p (progressFrom (afterSaid p t) rest) e
+        ∙ ap (λ (u : SaidCall). progressFrom (afterSaid p u) rest) (sym said) ∙ ap (λ (z : Progress). progressFrom z rest) (sym (c .progress))
+        ∙ ap (λ (m : List ℕ). progressFrom (r .progress) (parted m)) (sym d) in
         record {
           room = a .room;
           few = k .0;
@@ -222,6 +236,12 @@ answers-append g (l ∷ ls) ms =
 pub portions : PortionsAnswered
 portions =
     record {
-      answers = λ g text more. rw (parted-append text more) (answers-append g (parted (text ++ (10 ∷ []))) (parted more));
-      progress = λ g text more. rw (parted-append text more) (progress-append g (parted (text ++ (10 ∷ []))) (parted more));
+      answers =
+          λ g s t.
+          let n = wholeLines s in
+          ap (answersFrom g) (parted-whole s t) ∙ answers-append g (parted (take n s)) (parted (drop n s ++ t));
+      progress =
+          λ g s t.
+          let n = wholeLines s in
+          ap (progressFrom g) (parted-whole s t) ∙ progress-append g (parted (take n s)) (parted (drop n s ++ t));
     }

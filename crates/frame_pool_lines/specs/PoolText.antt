@@ -3,10 +3,10 @@ use Prim.Native.Nat.{ℕ, _/_}
 use mathlib.Core.Path.{_≡_}
 use mathlib.Core.Bool.{false}
 use mathlib.Core.List.{List, [], _∷_, _++_}
-use lib.ListN.{length}
+use lib.ListN.{length, take, drop}
 use lib.Dec.{leb}
 use Rattle.layout.specs.Choice.{pick}
-use Rattle.script_words.specs.Texts.{parted}
+use Rattle.script_words.specs.Texts.{parted, wholeLines}
 use Rattle.frame_pool.specs.FrameLists.{PoolCall, poolAfter}
 use Rattle.frame_pool_lines.specs.PoolLines.{saidBy, callAnswer, afterSaid, newProgress}
 use Rattle.frame_pool_lines.specs.declared.says.SaidCall.{SaidCall}
@@ -52,9 +52,12 @@ callsSaid (l ∷ ls) = thenCalls (saidBy l) (callsSaid ls)
 unfoldable pub LinesAreCalls : Type 0
 LinesAreCalls = (g : Progress) (ls : List (List ℕ)) → g .ended ≡ false → progressFrom g ls .pool ≡ poolAfter (g .pool) (callsSaid ls)
 
--- Portions that end with a line come to the whole: 10 is the newline.
+-- A portion of a text, of which the whole lines are answered, and more behind what is left of it: that comes to all of the text.
 pub record PortionsAnswered : Type 0 where
-  pub answers : (g : Progress) (text more : List ℕ) → (let s = text ++ (10 ∷ []) in
-      answersFrom g (parted (s ++ more)) ≡ answersFrom g (parted s) ++ answersFrom (progressFrom g (parted s)) (parted more))
-  pub progress : (g : Progress) (text more : List ℕ) → (let s = text ++ (10 ∷ []) in
-      progressFrom g (parted (s ++ more)) ≡ progressFrom (progressFrom g (parted s)) (parted more))
+  pub answers : (g : Progress) (portion more : List ℕ)
+      → (let n = wholeLines portion in
+      let done = parted (take n portion) in
+      answersFrom g (parted (portion ++ more)) ≡ answersFrom g done ++ answersFrom (progressFrom g done) (parted (drop n portion ++ more)))
+  pub progress : (g : Progress) (portion more : List ℕ)
+      → (let n = wholeLines portion in
+      progressFrom g (parted (portion ++ more)) ≡ progressFrom (progressFrom g (parted (take n portion))) (parted (drop n portion ++ more)))

@@ -189,7 +189,7 @@ pub fn lines_are_calls()
     ensures { λ _. ⌜ LinesAreCalls ⌝ }
 {}
 
-// Portions of whole lines, answered one after the other, come to the whole.
+// The whole lines of each portion, answered one after the other, come to all of a text.
 pub fn portions_answered()
     ensures { λ _. ⌜ PortionsAnswered ⌝ }
 {}

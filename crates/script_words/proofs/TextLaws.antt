@@ -6,11 +6,13 @@ use mathlib.Core.List.{List, [], _∷_, _++_}
 use native.Mathlib.Omega.{arith}
 use native.Mathlib.Numerals.{add-one}
 use lib.ListN.{length, getD, take, drop, length-take, length-drop, length-append, drop-of-length-le}
-use lib.Seq.{drop-cons, drop-length, drop-drop}
+use lib.Dec.{ltb}
+use lib.Seq.{drop-cons, drop-length, drop-drop, take-suc, take-length, length-take-le}
+use borrow.Author.Tests.{ltb-true, lt-ltb, eq-eqb, ne-eqb}
 use Rattle.layout.specs.Choice.{pick, _and_}
 use Rattle.layout.specs.Lists.{firstIndex}
 use Rattle.layout.proofs.Cases.{by-cases}
-use Rattle.script_words.specs.Texts.{endsLine, startsComment, uncommented, wholeLine, lineOf, linesAfter, onto, parted, linesOf, isBlank, isLetter, fromWord}
+use Rattle.script_words.specs.Texts.{endsLine, startsComment, uncommented, wholeLine, wholeLines, lineOf, linesAfter, onto, parted, linesOf, isBlank, isLetter, fromWord}
 use Rattle.script_words.specs.Texts.{firstWord, afterWord, wordFrom, wordsFrom, wordCount}
 
 -- ---- A scan for the first byte that passes a test
@@ -73,14 +75,73 @@ parted-next (b ∷ c ∷ cs) h =
 parted-some : (s : List ℕ) → 0 < length s → 0 < length (parted s)
 parted-some s h = rw (parted-next s h) (omega arith)
 
--- A text that ends its last line, and one behind it.
-pub parted-append : (s t : List ℕ) → parted ((s ++ (10 ∷ [])) ++ t) ≡ parted (s ++ (10 ∷ [])) ++ parted t
+onto-few : (b : ℕ) (ls : List (List ℕ)) (n : ℕ) → length ls ≤ n → length (onto b ls) ≤ suc n
+unfolding onto
+onto-few b [] n h = omega arith
+onto-few b (l ∷ ls) n h = omega arith
+
+-- A line has a byte at least: its own, or its end.
+pub parted-few : (s : List ℕ) → length (parted s) ≤ length s
 unfolding parted
-parted-append [] t = refl
-parted-append (b ∷ bs) t =
-    by-cases (endsLine b)
-    (λ e. rw (e, parted-append bs t))
-    (λ e. rw (e, parted-append bs t) (onto-append b (parted (bs ++ (10 ∷ []))) (parted t) (parted-some (bs ++ (10 ∷ [])) (omega (arith, length-append bs (10 ∷ []))))))
+parted-few [] = omega arith
+parted-few (b ∷ bs) =
+    by-cases (endsLine b) (λ t. rw t (omega (arith, parted-few bs))) (λ t. rw t (onto-few b (parted bs) (length bs) (parted-few bs)))
+
+whole-few : (s : List ℕ) → wholeLines s ≤ length s
+unfolding wholeLines
+whole-few [] = omega arith
+whole-few (b ∷ bs) =
+    by-cases (ltb 0 (wholeLines bs)) (λ t. rw t (omega (arith, whole-few bs)))
+    (λ t. rw t (by-cases (endsLine b) (λ e. rw e (omega arith)) (λ e. rw e (omega arith))))
+
+-- A text's whole lines, and what is left of it with more behind it.
+pub parted-whole : (s t : List ℕ) → parted (s ++ t) ≡ parted (take (wholeLines s) s) ++ parted (drop (wholeLines s) s ++ t)
+unfolding parted wholeLines
+parted-whole [] t = refl
+parted-whole (b ∷ bs) t =
+    let m = wholeLines bs in
+    by-cases (ltb 0 m)
+    (λ g.
+    let some : 0 < length (parted (take m bs)) = parted-some (take m bs) (omega (arith, ltb-true 0 m g, length-take-le m bs (whole-few bs))) in
+    rw (g, parted-whole bs t)
+    (by-cases (endsLine b) (λ e. rw e) (λ e. rw e (onto-append b (parted (take m bs)) (parted (drop m bs ++ t)) some))))
+    (λ g. rw g (by-cases (endsLine b) (λ e. rw e (rw e)) (λ e. rw e (rw e))))
+
+-- ---- The last end of a line, looked for from the end
+
+ends-hit : (xs : List ℕ) (b : ℕ) → endsLine b ≡ true → wholeLines (xs ++ (b ∷ [])) ≡ suc (length xs)
+unfolding wholeLines
+ends-hit [] b e = rw e
+ends-hit (x ∷ xs) b e = rw (ends-hit xs b e, lt-ltb 0 (suc (length xs)) (omega arith))
+
+ends-miss : (xs : List ℕ) (b : ℕ) → endsLine b ≡ false → wholeLines (xs ++ (b ∷ [])) ≡ wholeLines xs
+unfolding wholeLines
+ends-miss [] b e = rw e
+ends-miss (x ∷ xs) b e = rw (ends-miss xs b e)
+
+-- none ends behind the first n bytes
+pub record Ending (s : List ℕ) (n : ℕ) : Type 0 where
+  pub few : n ≤ length s
+  pub is : wholeLines s ≡ wholeLines (take n s)
+
+pub ending-none : (s : List ℕ) → Ending s (length s)
+ending-none s = record { few = omega arith; is = ap wholeLines (sym (take-length s)) }
+
+module _ {s : List ℕ} {n : ℕ} (r : Ending s n) (i : ℕ) (h : n ≡ suc i) where
+  pub ending-found : getD s i 0 ≡ 10 → (n ≡ wholeLines s) × (n ≤ length s)
+  ending-found e =
+      let k : i < length s = omega (arith, r .few) in
+      let t = length-take-le i s (omega arith) in
+      (h ∙ ap suc (sym t) ∙ sym (r .is ∙ rw (h, take-suc s i 0 k) (ends-hit (take i s) (getD s i 0) (eq-eqb (getD s i 0) 10 e))), r .few)
+
+  pub ending-more : (getD s i 0 ≡ 10 → ⊥) → Ending s i
+  ending-more e =
+      let k : i < length s = omega (arith, r .few) in
+      record { few = omega arith; is = r .is ∙ rw (h, take-suc s i 0 k) (ends-miss (take i s) (getD s i 0) (ne-eqb (getD s i 0) 10 e)) }
+
+pub ending-all : {s : List ℕ} {n : ℕ} → Ending s n → n ≤ 0 → (0 ≡ wholeLines s) × (0 ≤ length s)
+unfolding wholeLines
+ending-all {s} {n} r h = let z : n ≡ 0 = omega arith in (sym (r .is ∙ rw z), omega arith)
 
 pub lines-next : (s : List ℕ) → (0 < length s) → linesOf s ≡ lineOf s ∷ linesOf (linesAfter s)
 unfolding linesOf lineOf

@@ -3,7 +3,7 @@ use Prim.Native.Nat.{ℕ, zero, suc}
 use mathlib.Core.Bool.{Bool, true, not}
 use mathlib.Core.List.{List, [], _∷_, map}
 use lib.ListN.{take, drop}
-use lib.Dec.{eqb}
+use lib.Dec.{ltb, eqb}
 use Rattle.layout.specs.Choice.{pick, _or_, _and_}
 use Rattle.layout.specs.Lists.{firstIndex}
 
@@ -32,6 +32,11 @@ lineOf s = uncommented (wholeLine s)
 -- The text after its first line.
 unfoldable pub linesAfter : List ℕ → List ℕ
 linesAfter s = drop (suc (firstIndex endsLine s)) s
+
+-- How many bytes the whole lines of a text have: up to its last end of a line.
+unfoldable pub wholeLines : List ℕ → ℕ
+wholeLines [] = 0
+wholeLines (b ∷ bs) = pick (ltb 0 (wholeLines bs)) (suc (wholeLines bs)) (pick (endsLine b) 1 0)
 
 -- A byte at the start of the first line.
 unfoldable pub onto : ℕ → List (List ℕ) → List (List ℕ)

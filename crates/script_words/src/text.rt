@@ -4,7 +4,7 @@ ghost use Prim.Native.Nat.{_+_, _<_, _≤_};
 ghost use lib.ListN.{length, drop};
 ghost use Rattle.layout.specs.Lists.{firstIndex};
 ghost use lib.Dec.{eqb};
-ghost use Rattle.script_words.specs.Texts.{isBlank, stops, uncommented, wholeLine, lineOf, linesAfter, wordFrom, wordCount};
+ghost use Rattle.script_words.specs.Texts.{isBlank, stops, uncommented, wholeLine, lineOf, linesAfter, wholeLines, wordFrom, wordCount};
 
 // The first place of a byte from here on, or the end.
 fn find(s: &[u8], from: usize, byte: u8) -> usize
@@ -60,6 +60,20 @@ pub fn next_line(s: &[u8], at: usize) -> usize
         return end + 1;
     }
     end
+}
+
+// Where the last line that ends in a text ends; 0 where none does.
+pub fn whole_lines(s: &[u8]) -> usize
+    ensures { λ r. ⌜ (r ≡ wholeLines (now (s .entry))) × (r ≤ length (now (s .entry))) ⌝ }
+{
+    let mut n = s.len();
+    while n > 0 {
+        if s[n - 1] == b'\n' {
+            return n;
+        }
+        n -= 1;
+    }
+    0
 }
 
 // Blank, tab and carriage return stand between words.

@@ -175,7 +175,7 @@ highest p d f e =
     let l = p .marks in
     let b = highest-below frameCount l (omega arith) in
     let k = same-frame (highestFree frameCount l) f (sym (ap (λ r. r .reply) (take-served p d t)) ∙ e) in
-    rw (← k) (mark-inside l 0 (highestFree frameCount l) b ∙ eq-eqb (getD l (highestFree frameCount l) 0) 0 (highest-free frameCount l (omega arith)), held-above l))
+    rw (← k) (mark-inside l 0 (highestFree frameCount l) b ∙ eq-eqb (getD l (highestFree frameCount l) 0) 0 (highest-free frameCount l (omega arith)), λ g m. held-above l g (omega arith)))
     (λ t. absurd (not-frame 32 f (sym (ap (λ r. r .reply) (take-refused p d t)) ∙ e)))
 
 -- ---- Two lists

@@ -6,9 +6,9 @@ use crate::routes::b_first;
 use crate::routes::exchanged;
 use crate::routes::in_turns;
 use crate::routes::reached;
-use crate::run::Run;
-use crate::run::agrees;
-use crate::run::serves_take;
+use crate::trial::Trial;
+use crate::trial::agrees;
+use crate::trial::serves_take;
 use frame_pool::DecoderId;
 use io::write_all;
 use key_lines::Column;
@@ -17,7 +17,7 @@ use libc::STDOUT_FILENO;
 
 mod plain; // plain.rt: the rule, over who holds each frame
 mod routes; // routes.rt: the calls that lead to a pair
-mod run; // run.rt: a pool and the rule, side by side
+mod trial; // trial.rt: a pool and the rule, side by side
 
 // What the routes to a pair found: whether one came there, whether every reply was the rule's, 1 or 0 for a take served there.
 struct Found {
@@ -27,19 +27,19 @@ struct Found {
     b_served: u64,
 }
 
-// A run that did not come to the pair is compared by its replies alone.
-fn with_run(found: Found, run: Run, a: u8, b: u8) -> Found {
-    if !reached(run, a, b) {
+// A trial that did not come to the pair is compared by its replies alone.
+fn with_trial(found: Found, trial: Trial, a: u8, b: u8) -> Found {
+    if !reached(trial, a, b) {
         return Found {
-            same: found.same & run.same,
+            same: found.same & trial.same,
             ..found
         };
     }
     Found {
         reached: true,
-        same: found.same & agrees(run),
-        a_served: serves_take(run, DecoderId::A),
-        b_served: serves_take(run, DecoderId::B),
+        same: found.same & agrees(trial),
+        a_served: serves_take(trial, DecoderId::A),
+        b_served: serves_take(trial, DecoderId::B),
     }
 }
 
@@ -51,9 +51,9 @@ fn by_takes(a: u8, b: u8) -> Found {
         a_served: 0,
         b_served: 0,
     };
-    let one = with_run(none, b_first(a, b), a, b);
-    let two = with_run(one, a_first(a, b), a, b);
-    with_run(two, in_turns(a, b), a, b)
+    let one = with_trial(none, b_first(a, b), a, b);
+    let two = with_trial(one, a_first(a, b), a, b);
+    with_trial(two, in_turns(a, b), a, b)
 }
 
 // How many times over frames are exchanged.
@@ -65,10 +65,10 @@ const STEP: usize = 5;
 // The route of takes and gives. Every pool on it holds the pair again, and is looked at.
 fn with_exchanges(before: Found, a: u8, b: u8) -> Found {
     let mut found = before;
-    let mut run = b_first(a, b);
+    let mut trial = b_first(a, b);
     for i in 0..TIMES {
-        run = exchanged(run, a, b, i * STEP);
-        found = with_run(found, run, a, b);
+        trial = exchanged(trial, a, b, i * STEP);
+        found = with_trial(found, trial, a, b);
     }
     found
 }

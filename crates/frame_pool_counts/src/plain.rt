@@ -58,14 +58,14 @@ fn highest_free(holders: &[u8; FRAMES]) -> usize
 }
 
 // What a call comes to by the rule: the number of the frame or of the refusal, and who holds each frame after it.
-pub(crate) struct Outcome {
+pub(crate) struct RuleCall {
     pub(crate) accepted: bool,
     pub(crate) number: usize,
     pub(crate) holders: [u8; FRAMES],
 }
 
-fn refusal(holders: [u8; FRAMES], number: usize) -> Outcome {
-    Outcome {
+fn refusal(holders: [u8; FRAMES], number: usize) -> RuleCall {
+    RuleCall {
         accepted: false,
         number,
         holders,
@@ -73,26 +73,26 @@ fn refusal(holders: [u8; FRAMES], number: usize) -> Outcome {
 }
 
 // A frame with its new holder.
-fn change(before: [u8; FRAMES], frame: usize, holder: u8) -> Outcome
+fn change(before: [u8; FRAMES], frame: usize, holder: u8) -> RuleCall
     requires { ⌜ frame < 16 ⌝ }
 {
     let mut holders = before;
     holders[frame] = holder;
-    Outcome {
+    RuleCall {
         accepted: true,
         number: frame,
         holders,
     }
 }
 
-pub(crate) fn plain_take(holders: [u8; FRAMES], who: DecoderId) -> Outcome {
+pub(crate) fn plain_take(holders: [u8; FRAMES], who: DecoderId) -> RuleCall {
     if !serves(&holders, who) {
         return refusal(holders, 32);
     }
     change(holders, highest_free(&holders), holder(who))
 }
 
-pub(crate) fn plain_give(holders: [u8; FRAMES], who: DecoderId, frame: usize) -> Outcome {
+pub(crate) fn plain_give(holders: [u8; FRAMES], who: DecoderId, frame: usize) -> RuleCall {
     if frame > 15 {
         return refusal(holders, 33);
     }

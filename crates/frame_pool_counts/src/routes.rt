@@ -4,63 +4,63 @@ use crate::plain::count;
 use crate::plain::holder;
 use crate::plain::other;
 use crate::plain::serves;
-use crate::run::Run;
-use crate::run::start;
-use crate::run::with_give;
-use crate::run::with_take;
+use crate::trial::Trial;
+use crate::trial::start;
+use crate::trial::with_give;
+use crate::trial::with_take;
 use frame_pool::DecoderId;
 
-fn held(run: Run, who: DecoderId) -> u8 {
-    let holders = run.holders;
+fn held(trial: Trial, who: DecoderId) -> u8 {
+    let holders = trial.holders;
     count(&holders, holder(who))
 }
 
-// Whether the run came to (a, b), every take served.
-pub(crate) fn reached(run: Run, a: u8, b: u8) -> bool {
-    run.served & (held(run, DecoderId::A) == a) & (held(run, DecoderId::B) == b)
+// Whether the trial came to (a, b), every take served.
+pub(crate) fn reached(trial: Trial, a: u8, b: u8) -> bool {
+    trial.served & (held(trial, DecoderId::A) == a) & (held(trial, DecoderId::B) == b)
 }
 
-fn take_times(before: Run, who: DecoderId, times: u8) -> Run {
-    let mut run = before;
+fn take_times(before: Trial, who: DecoderId, times: u8) -> Trial {
+    let mut trial = before;
     for _ in 0..times {
-        run = with_take(run, who);
+        trial = with_take(trial, who);
     }
-    run
+    trial
 }
 
-pub(crate) fn b_first(a: u8, b: u8) -> Run {
+pub(crate) fn b_first(a: u8, b: u8) -> Trial {
     take_times(take_times(start(), DecoderId::B, b), DecoderId::A, a)
 }
 
-pub(crate) fn a_first(a: u8, b: u8) -> Run {
+pub(crate) fn a_first(a: u8, b: u8) -> Trial {
     take_times(take_times(start(), DecoderId::A, a), DecoderId::B, b)
 }
 
-fn take_where(run: Run, who: DecoderId, due: bool) -> Run {
-    if due { with_take(run, who) } else { run }
+fn take_where(trial: Trial, who: DecoderId, due: bool) -> Trial {
+    if due { with_take(trial, who) } else { trial }
 }
 
-pub(crate) fn in_turns(a: u8, b: u8) -> Run {
-    let mut run = start();
+pub(crate) fn in_turns(a: u8, b: u8) -> Trial {
+    let mut trial = start();
     for turn in 0..16 {
-        run = take_where(run, DecoderId::A, turn < a);
-        run = take_where(run, DecoderId::B, turn < b);
+        trial = take_where(trial, DecoderId::A, turn < a);
+        trial = take_where(trial, DecoderId::B, turn < b);
     }
-    run
+    trial
 }
 
 // A take where the rule serves it.
-fn take_served(run: Run, who: DecoderId) -> Run {
-    let holders = run.holders;
-    take_where(run, who, serves(&holders, who))
+fn take_served(trial: Trial, who: DecoderId) -> Trial {
+    let holders = trial.holders;
+    take_where(trial, who, serves(&holders, who))
 }
 
 // The same where the decoder holds fewer than n.
-fn take_under(run: Run, who: DecoderId, n: u8) -> Run {
-    if held(run, who) < n {
-        take_served(run, who)
+fn take_under(trial: Trial, who: DecoderId, n: u8) -> Trial {
+    if held(trial, who) < n {
+        take_served(trial, who)
     } else {
-        run
+        trial
     }
 }
 
@@ -76,24 +76,24 @@ fn first_held(holders: &[u8; FRAMES], holder: u8, from: usize) -> usize {
 }
 
 // A give of the decoder's first frame from a number on, which is refused where it holds none.
-fn give_from(run: Run, who: DecoderId, from: usize) -> Run {
-    let holders = run.holders;
-    with_give(run, who, first_held(&holders, holder(who), from))
+fn give_from(trial: Trial, who: DecoderId, from: usize) -> Trial {
+    let holders = trial.holders;
+    with_give(trial, who, first_held(&holders, holder(who), from))
 }
 
 // The same where the decoder holds more than n.
-fn give_over(run: Run, who: DecoderId, n: u8, from: usize) -> Run {
-    if held(run, who) > n {
-        give_from(run, who, from)
+fn give_over(trial: Trial, who: DecoderId, n: u8, from: usize) -> Trial {
+    if held(trial, who) > n {
+        give_from(trial, who, from)
     } else {
-        run
+        trial
     }
 }
 
 // A decoder that holds n gives a frame back and takes again. In between the other, which holds m, has one more where it is served:
 // else the frame just given, which may be the highest free one, would only come back.
-fn exchange(run: Run, who: DecoderId, n: u8, m: u8, from: usize) -> Run {
-    let given = give_from(run, who, from);
+fn exchange(trial: Trial, who: DecoderId, n: u8, m: u8, from: usize) -> Trial {
+    let given = give_from(trial, who, from);
     let lent = take_served(given, other(who));
     let again = take_under(lent, who, n);
     let back = give_over(again, other(who), m, from);
@@ -101,7 +101,7 @@ fn exchange(run: Run, who: DecoderId, n: u8, m: u8, from: usize) -> Run {
 }
 
 // The same of each decoder, so that the held frames do not lie together.
-pub(crate) fn exchanged(run: Run, a: u8, b: u8, from: usize) -> Run {
-    let one = exchange(run, DecoderId::A, a, b, from);
+pub(crate) fn exchanged(trial: Trial, a: u8, b: u8, from: usize) -> Trial {
+    let one = exchange(trial, DecoderId::A, a, b, from);
     exchange(one, DecoderId::B, b, a, from)
 }

@@ -28,7 +28,7 @@ use Rattle.frame_pool_lines.specs.PoolText.{answersFrom, progressFrom, a
 use Rattle.frame_pool_lines.proofs.SaysLaws.{picks-first, picks-second}
 use Rattle.frame_pool_lines.specs.declared.says.SaidCall.{SaidCall}
 use Rattle.frame_pool_lines.specs.declared.Progress.{Progress}
-use Rattle.frame_pool_lines.specs.declared.Answered.{Answered}
+use Rattle.frame_pool_lines.specs.declared.LinesAnswered.{LinesAnswered}
 
 -- ---- An answer has 16 bytes at most
 
@@ -78,7 +78,7 @@ module _ {g : Progress} {d : DecoderId} {before after : List ℕ} {at n number :
 pub line-as : {A : Type 0} (f : A → List ℕ) {x y : A} {before after : List ℕ} {at n : ℕ} → x ≡ y → LinePut before at (f y) after n → LinePut before at (f x) after n
 line-as f e p = rw e p
 
-pub call-as : {g : Progress} {s t : SaidCall} {before after : List ℕ} {at : ℕ} {r : Answered} → s ≡ t → CallAnswered g t before at after r
+pub call-as : {g : Progress} {s t : SaidCall} {before after : List ℕ} {at : ℕ} {r : LinesAnswered} → s ≡ t → CallAnswered g t before at after r
     → CallAnswered g s before at after r
 call-as e c = rw e c
 
@@ -95,7 +95,7 @@ pub record Answering (g : Progress) (text before after : List ℕ) (p : Progress
   pub progress : progressFrom g (parted text) ≡ progressFrom p (parted (drop at text))
 
 -- what answer_lines is to give
-abbrev pub Given : (g : Progress) (text before after : List ℕ) (r : Answered) → Type 0
+abbrev pub Given : (g : Progress) (text before after : List ℕ) (r : LinesAnswered) → Type 0
 Given g text before after r = (r ≡ answeredIn (length before) g text) × (after ≡ putAt before 0 (answersIn (length before) g text))
 
 pub little-room : (g : Progress) (text before : List ℕ) → length before / 16 < length text
@@ -137,15 +137,15 @@ module _ {g : Progress} {text before after : List ℕ} {p : Progress} {n at : �
     unfolding answersFrom progressFrom
     answering-ended e = finished (rw (next-parted, e)) (rw (next-parted, e))
 
-    answer-whole : (s : SaidCall) {b : List ℕ} {r : Answered} → CallAnswered p s after n b r → r .length ≡ length (callAnswer p s)
+    answer-whole : (s : SaidCall) {b : List ℕ} {r : LinesAnswered} → CallAnswered p s after n b r → r .length ≡ length (callAnswer p s)
     answer-whole s c =
         let few = answer-short p s in
         c .line .long ∙ rw (le-leb (n + length (callAnswer p s)) (length after) (omega (arith, answering-long, a .room, a .used)))
 
-    pub answering-fits : (s : SaidCall) {b : List ℕ} {r : Answered} → CallAnswered p s after n b r → n + r .length ≤ length before
+    pub answering-fits : (s : SaidCall) {b : List ℕ} {r : LinesAnswered} → CallAnswered p s after n b r → n + r .length ≤ length before
     answering-fits s c = omega (arith, a .room, a .used, answer-whole s c, answer-short p s)
 
-    pub answering-more : (l : List ℕ) (s : SaidCall) (next : ℕ) {b : List ℕ} {r : Answered} → p .ended ≡ false → l ≡ wholeLine (drop at text) → s ≡ saidBy l
+    pub answering-more : (l : List ℕ) (s : SaidCall) (next : ℕ) {b : List ℕ} {r : LinesAnswered} → p .ended ≡ false → l ≡ wholeLine (drop at text) → s ≡ saidBy l
         → CallAnswered p s after n b r → drop next text ≡ linesAfter (drop at text) → (next ≤ length text) × (at < length text → at < next)
         → Answering g text before b (r .progress) (n + r .length) next
     unfolding answersFrom progressFrom

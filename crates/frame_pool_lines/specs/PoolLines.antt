@@ -20,7 +20,7 @@ use Rattle.frame_pool.specs.declared.GiveReply.{GiveReply}
 use Rattle.frame_pool_lines.specs.declared.says.DecoderWord.{DecoderWord}
 use Rattle.frame_pool_lines.specs.declared.says.SaidCall.{SaidCall}
 use Rattle.frame_pool_lines.specs.declared.Progress.{Progress}
-use Rattle.frame_pool_lines.specs.declared.Answered.{Answered}
+use Rattle.frame_pool_lines.specs.declared.LinesAnswered.{LinesAnswered}
 
 -- ---- What a line says: `TAKE A`, `TAKE B`, `GIVE A n` or `GIVE B n`, or none of these
 
@@ -87,6 +87,6 @@ afterSaid g (SaidCall.Give d f) = record { pool = giveOf (g .pool) d f .pool; nu
 afterSaid g SaidCall.Neither = record { pool = g .pool; number = g .number; ended = true }
 
 -- A call's answer put into a lent buffer from an offset on, where it fits, and what is left after it.
-pub record CallAnswered (g : Progress) (said : SaidCall) (before : List ℕ) (at : ℕ) (after : List ℕ) (r : Answered) : Type 0 where
+pub record CallAnswered (g : Progress) (said : SaidCall) (before : List ℕ) (at : ℕ) (after : List ℕ) (r : LinesAnswered) : Type 0 where
   pub line : LinePut before at (callAnswer g said) after (r .length)
   pub progress : r .progress ≡ afterSaid g said

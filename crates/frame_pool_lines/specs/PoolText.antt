@@ -6,12 +6,15 @@ use mathlib.Core.List.{List, [], _∷_, _++_}
 use lib.ListN.{length, take, drop}
 use lib.Dec.{leb}
 use Rattle.layout.specs.Choice.{pick}
+use Rattle.key_lines.specs.Lines.{stopLine}
 use Rattle.script_words.specs.Texts.{parted, wholeLines}
 use Rattle.frame_pool.specs.FrameLists.{PoolCall, poolAfter}
-use Rattle.frame_pool_lines.specs.PoolLines.{saidBy, callAnswer, afterSaid, newProgress}
+use Rattle.frame_pool.specs.declared.TakeReply.{TakeReply}
+use Rattle.frame_pool.specs.declared.GiveReply.{GiveReply}
+use Rattle.frame_pool_lines.specs.PoolLines.{saidBy, takeLine, giveLine, wrongLineIs, callAnswer, afterSaid, newProgress}
 use Rattle.frame_pool_lines.specs.declared.says.SaidCall.{SaidCall}
 use Rattle.frame_pool_lines.specs.declared.Progress.{Progress}
-use Rattle.frame_pool_lines.specs.declared.Answered.{Answered}
+use Rattle.frame_pool_lines.specs.declared.LinesAnswered.{LinesAnswered}
 
 -- ---- The lines one after the other: "prints for each a line", and after a line that says no call "nothing more"
 
@@ -33,8 +36,24 @@ poolText text = answersFrom newProgress (parted text)
 abbrev pub answersIn : (room : ℕ) → Progress → (text : List ℕ) → List ℕ
 answersIn room g text = pick (leb (length text) (room / 16)) (answersFrom g (parted text)) []
 
-abbrev pub answeredIn : (room : ℕ) → Progress → (text : List ℕ) → Answered
+abbrev pub answeredIn : (room : ℕ) → Progress → (text : List ℕ) → LinesAnswered
 answeredIn room g text = record { progress = pick (leb (length text) (room / 16)) (progressFrom g (parted text)) g; length = length (answersIn room g text) }
+
+-- ---- Small cases, computed
+
+-- A frame taken by A, given back by B in vain, by A with zeros before its number, and a number that no frame has; then a line without a word, and one more.
+abbrev pub smallText : List ℕ
+smallText =
+    (84 ∷ 65 ∷ 75 ∷ 69 ∷ 32 ∷ 65 ∷ 10 ∷ []) ++ (71 ∷ 73 ∷ 86 ∷ 69 ∷ 32 ∷ 66 ∷ 32 ∷ 49 ∷ 53 ∷ 10 ∷ [])
+    ++ (71 ∷ 73 ∷ 86 ∷ 69 ∷ 9 ∷ 65 ∷ 32 ∷ 32 ∷ 48 ∷ 49 ∷ 53 ∷ 13 ∷ 10 ∷ []) ++ (71 ∷ 73 ∷ 86 ∷ 69 ∷ 32 ∷ 65 ∷ 32 ∷ 51 ∷ 49 ∷ 10 ∷ [])
+    ++ (32 ∷ 10 ∷ []) ++ (84 ∷ 65 ∷ 75 ∷ 69 ∷ 32 ∷ 65 ∷ 10 ∷ [])
+
+pub record PoolTextCases : Type 0 where
+  pub answers : poolText smallText
+      ≡ takeLine (TakeReply.Frame 15) ++ stopLine 33 ++ giveLine GiveReply.Given ++ stopLine 33 ++ wrongLineIs 5
+  -- a last line without its end is one; and it says nothing with a word too many
+  pub last : poolText (84 ∷ 65 ∷ 75 ∷ 69 ∷ 32 ∷ 66 ∷ []) ≡ takeLine (TakeReply.Frame 15)
+  pub more : poolText (84 ∷ 65 ∷ 75 ∷ 69 ∷ 32 ∷ 66 ∷ 32 ∷ 66 ∷ []) ≡ wrongLineIs 1
 
 -- ---- What holds of it
 

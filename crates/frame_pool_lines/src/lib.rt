@@ -21,7 +21,7 @@ ghost use Rattle.layout.specs.Sizes.{saturated};
 ghost use Rattle.key_lines.specs.Lines.{LinePut};
 ghost use Rattle.frame_pool_lines.specs.PoolLines.{takeLine, giveLine, wrongLineIs, newProgress, CallAnswered};
 ghost use Rattle.frame_pool_lines.specs.declared.says.SaidCall.{SaidCall};
-ghost use Rattle.frame_pool_lines.specs.PoolText.{answersIn, answeredIn, LinesAreCalls, PortionsAnswered};
+ghost use Rattle.frame_pool_lines.specs.PoolText.{answersIn, answeredIn, PoolTextCases, LinesAreCalls, PortionsAnswered};
 
 pub mod says; // says.rt: what a line says
 
@@ -36,7 +36,7 @@ pub struct Progress {
 }
 
 // Where the lines of a text have led, and how many bytes their answers have.
-pub struct Answered {
+pub struct LinesAnswered {
     pub progress: Progress,
     pub length: usize,
 }
@@ -93,7 +93,7 @@ fn next_number(n: u64) -> u64
     if n < u64::MAX { n + 1 } else { n }
 }
 
-fn answer_take(from: Progress, who: DecoderId, out: &mut [u8], at: usize) -> Answered
+fn answer_take(from: Progress, who: DecoderId, out: &mut [u8], at: usize) -> LinesAnswered
     ensures { λ r. ⌜ CallAnswered from (SaidCall.Take who) (now (out .entry)) at (now (out .exit)) r ⌝ }
 {
     let pool = from.pool;
@@ -103,7 +103,7 @@ fn answer_take(from: Progress, who: DecoderId, out: &mut [u8], at: usize) -> Ans
     let pool = call.pool;
     let number = next_number(from.number);
     let ended = false;
-    Answered {
+    LinesAnswered {
         progress: Progress {
             pool,
             number,
@@ -113,7 +113,13 @@ fn answer_take(from: Progress, who: DecoderId, out: &mut [u8], at: usize) -> Ans
     }
 }
 
-fn answer_give(from: Progress, who: DecoderId, frame: usize, out: &mut [u8], at: usize) -> Answered
+fn answer_give(
+    from: Progress,
+    who: DecoderId,
+    frame: usize,
+    out: &mut [u8],
+    at: usize,
+) -> LinesAnswered
     ensures { λ r. ⌜ CallAnswered from (SaidCall.Give who frame) (now (out .entry)) at (now (out .exit)) r ⌝ }
 {
     let pool = from.pool;
@@ -123,7 +129,7 @@ fn answer_give(from: Progress, who: DecoderId, frame: usize, out: &mut [u8], at:
     let pool = call.pool;
     let number = next_number(from.number);
     let ended = false;
-    Answered {
+    LinesAnswered {
         progress: Progress {
             pool,
             number,
@@ -133,14 +139,14 @@ fn answer_give(from: Progress, who: DecoderId, frame: usize, out: &mut [u8], at:
     }
 }
 
-fn answer_neither(from: Progress, out: &mut [u8], at: usize) -> Answered
+fn answer_neither(from: Progress, out: &mut [u8], at: usize) -> LinesAnswered
     ensures { λ r. ⌜ CallAnswered from SaidCall.Neither (now (out .entry)) at (now (out .exit)) r ⌝ }
 {
     let pool = from.pool;
     let number = from.number;
     let length = put_wrong(out, at, number);
     let ended = true;
-    Answered {
+    LinesAnswered {
         progress: Progress {
             pool,
             number,
@@ -150,7 +156,7 @@ fn answer_neither(from: Progress, out: &mut [u8], at: usize) -> Answered
     }
 }
 
-fn answer_call(from: Progress, said: SaidCall, out: &mut [u8], at: usize) -> Answered
+fn answer_call(from: Progress, said: SaidCall, out: &mut [u8], at: usize) -> LinesAnswered
     ensures { λ r. ⌜ CallAnswered from said (now (out .entry)) at (now (out .exit)) r ⌝ }
 {
     match said {
@@ -161,19 +167,19 @@ fn answer_call(from: Progress, said: SaidCall, out: &mut [u8], at: usize) -> Ans
 }
 
 // The answers to the lines of a text, from the buffer's start; nothing where it has fewer than 16 bytes for each of the text.
-pub fn answer_lines(from: Progress, text: &[u8], out: &mut [u8]) -> Answered
+pub fn answer_lines(from: Progress, text: &[u8], out: &mut [u8]) -> LinesAnswered
     ensures { λ r. ⌜ r ≡ answeredIn (length (now (out .entry))) from (now (text .entry)) ⌝ }
     ensures { λ _. ⌜ now (out .exit) ≡ putAt (now (out .entry)) 0 (answersIn (length (now (out .entry))) from (now (text .entry))) ⌝ }
 {
     let mut progress = from;
     let mut length: usize = 0;
     if text.len() > out.len() / ANSWER_SIZE {
-        return Answered { progress, length };
+        return LinesAnswered { progress, length };
     }
     let mut at: usize = 0;
     while at < text.len() {
         if progress.ended {
-            return Answered { progress, length };
+            return LinesAnswered { progress, length };
         }
         let said = said_by(whole_line_at(text, at));
         let done = answer_call(progress, said, out, length);
@@ -181,8 +187,13 @@ pub fn answer_lines(from: Progress, text: &[u8], out: &mut [u8]) -> Answered
         length += done.length;
         at = next_line(text, at);
     }
-    Answered { progress, length }
+    LinesAnswered { progress, length }
 }
+
+// Small cases, computed.
+pub fn pool_text_cases()
+    ensures { λ _. ⌜ PoolTextCases ⌝ }
+{}
 
 // The pool that a text's lines leave is that of the calls that they say.
 pub fn lines_are_calls()

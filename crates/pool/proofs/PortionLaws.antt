@@ -12,18 +12,18 @@ use Rattle.layout.proofs.PutLaws.{putAt-in, putAt-length}
 use Rattle.script_words.specs.Texts.{parted}
 use Rattle.frame_pool_lines.specs.PoolText.{answersFrom, answersIn, answeredIn}
 use Rattle.frame_pool_lines.specs.declared.Progress.{Progress}
-use Rattle.frame_pool_lines.specs.declared.Answered.{Answered}
+use Rattle.frame_pool_lines.specs.declared.LinesAnswered.{LinesAnswered}
 use Rattle.frame_pool_lines.proofs.AnswerLaws.{answers-few}
 
 -- ---- The answers
 
-module _ (g : Progress) (text before : List ℕ) {after : List ℕ} {r : Answered} (room : 65536 ≡ length before) (short : length text ≤ 4096)
+module _ (g : Progress) (text before : List ℕ) {after : List ℕ} {r : LinesAnswered} (room : 65536 ≡ length before) (short : length text ≤ 4096)
     (e : r ≡ answeredIn (length before) g text) (f : after ≡ putAt before 0 (answersIn (length before) g text)) where
   all-answered : answersIn (length before) g text ≡ answersFrom g (parted text)
   all-answered = rw (le-leb (length text) (length before / 16) (omega arith))
 
   answers-long : r .length ≡ length (answersFrom g (parted text))
-  answers-long = ap (λ (a : Answered). a .length) e ∙ ap length all-answered
+  answers-long = ap (λ (a : LinesAnswered). a .length) e ∙ ap length all-answered
 
   answers-fit : 0 + length (answersFrom g (parted text)) ≤ length before
   answers-fit = omega (arith, answers-few g text)

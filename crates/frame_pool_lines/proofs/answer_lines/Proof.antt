@@ -25,13 +25,20 @@ returns-2 : tie.Need-returns-2 Inv-loop μ-loop
 returns-2 c = answering-ended (c .before .before .loop .inv) (search needs) (c .if2 .taken)
 
 loop-again : tie.Need-loop-again Inv-loop μ-loop
-loop-again c = answering-more (c .before .before .before .before .before .before .before .before .before .before .before .loop .inv) (search needs) _ _ _ (c .before .before .before .before .before .before .before .before .before .if2 .left) (c .before .before .before .before .before .before .before .before .whole-line-at .ensures) (c .before .before .before .before .before .before .before .said-by .ensures) (c .before .before .before .before .before .answer-call .ensures) (c .next-line .ensures .0) (c .next-line .ensures .1)
+loop-again c =
+    let a = c .before .before .before .before .before in
+    let l = a .before .before .before in
+    answering-more (l .before .before .before .loop .inv) (search needs) _ _ _ (l .before .if2 .left) (l .whole-line-at .ensures) (a .before .before .said-by .ensures)
+    (a .answer-call .ensures) (c .next-line .ensures .0) (c .next-line .ensures .1)
 
 add-length : tie.Need-add-length Inv-loop μ-loop
 add-length c = omega (arith, answering-fits (c .before .before .before .before .before .before .before .before .before .before .loop .inv) (search needs) _ (c .before .before .before .before .answer-call .ensures))
 
 loop-less : tie.Need-loop-less Inv-loop μ-loop
-loop-less c = let t : c .before .before .before .before .before .before .before .before .before .before .before .loop .at < length (c .before .before .before .before .before .before .before .before .before .before .before .before .before .before .before .args .text .now) = search needs in omega (arith, c .next-line .ensures .1 .1 t)
+loop-less c =
+    let l = c .before .before .before .before .before .before .before .before .before .before .before in
+    let t : l .loop .at < length (l .before .before .before .before .args .text .now) = search needs in
+    omega (arith, c .next-line .ensures .1 .1 t)
 
 same-length-2 : tie.Need-same-length-2 Inv-loop μ-loop
 same-length-2 c = answering-long (c .before .loop .inv)

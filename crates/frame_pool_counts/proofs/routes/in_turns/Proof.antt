@@ -4,10 +4,10 @@ use Rattle.frame_pool_counts.proofs.routes.in_turns.Statement.{statemen
 use Rattle.frame_pool_counts.proofs.routes.in_turns.Tie as tie
 
 abbrev Inv-loop : tie.InvT-loop
-Inv-loop a b run₀ turn₀ run turn = turn ≤ 16
+Inv-loop a b trial₀ turn₀ trial turn = turn ≤ 16
 
 abbrev μ-loop : tie.MeasureT-loop
-μ-loop a b run₀ turn₀ run turn = 16 - turn
+μ-loop a b trial₀ turn₀ trial turn = 16 - turn
 
 pub in-turns-spec : {M : Type 1} → statement M
 in-turns-spec =

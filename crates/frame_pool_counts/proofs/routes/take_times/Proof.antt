@@ -4,10 +4,10 @@ use Rattle.frame_pool_counts.proofs.routes.take_times.Statement.{statem
 use Rattle.frame_pool_counts.proofs.routes.take_times.Tie as tie
 
 abbrev Inv-loop : tie.InvT-loop
-Inv-loop who times run₀ counter₀ run counter = counter ≤ times
+Inv-loop who times trial₀ counter₀ trial counter = counter ≤ times
 
 abbrev μ-loop : tie.MeasureT-loop
-μ-loop who times run₀ counter₀ run counter = times - counter
+μ-loop who times trial₀ counter₀ trial counter = times - counter
 
 pub take-times-spec : {M : Type 1} → statement M
 take-times-spec =

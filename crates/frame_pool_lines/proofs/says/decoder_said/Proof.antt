@@ -8,10 +8,14 @@ returns : tie.Need-returns
 returns c = says-a _ (sym (c .before .is-word .ensures) ∙ c .if1 .taken)
 
 returns-2 : tie.Need-returns-2
-returns-2 c = says-b _ (sym (c .before .before .before .before .is-word .ensures) ∙ c .before .before .before .if1 .left) (sym (c .before .is-word2 .ensures) ∙ c .if2 .taken)
+returns-2 c =
+    let k = c .before .before .before in
+    says-b _ (sym (k .before .is-word .ensures) ∙ k .if1 .left) (sym (c .before .is-word2 .ensures) ∙ c .if2 .taken)
 
 returns-3 : tie.Need-returns-3
-returns-3 c = says-neither _ (sym (c .before .before .before .before .is-word .ensures) ∙ c .before .before .before .if1 .left) (sym (c .before .is-word2 .ensures) ∙ c .if2 .left)
+returns-3 c =
+    let k = c .before .before .before in
+    says-neither _ (sym (k .before .is-word .ensures) ∙ k .if1 .left) (sym (c .before .is-word2 .ensures) ∙ c .if2 .left)
 
 pub decoder-said-spec : {M : Type 1} → statement M
 decoder-said-spec =

@@ -8,13 +8,13 @@ use lib.ListN.{length, getD}
 use lib.Dec.{eqb, ltb}
 use borrow.Author.Tests.{eqb-true, eq-eqb, ne-eqb, lt-ltb, le-ltb, ltb-true, ltb-false}
 use Rattle.layout.specs.Choice.{pick}
-use Rattle.layout.specs.Lists.{All, more}
+use Rattle.layout.specs.Lists.{All}
 use Rattle.layout.proofs.Cases.{by-cases, apart}
-use Rattle.layout.proofs.ListLaws.{zeros-at}
+use Rattle.layout.proofs.ListLaws.{all-head, all-tail, zeros-at}
 use Rattle.frame_pool.specs.FramePool.{frameCount, share, countMarked, highestFree, hasMark, markOf, otherDecoder, freeFrames, heldBy, lacks}
 use Rattle.frame_pool.specs.FramePool.{isFree, isHeldBy, serves, newPool, takeOf, giveOf}
 use Rattle.frame_pool.specs.HighestFree.{HighestFree}
-use Rattle.frame_pool.specs.FrameLists.{PoolCall, afterPoolCall, poolAfter, OneOfThree, Accounted, OwnCall, ownCalls, TakeAnswer, withoutFrame, takeAnswers}
+use Rattle.frame_pool.specs.FrameLists.{PoolCall, afterPoolCall, poolAfter, OneOfThree, OwnCall, ownCalls, TakeAnswer, withoutFrame, takeAnswers}
 use Rattle.frame_pool.specs.FrameLists.{giveReplies, poolsAlong, SixteenFrames, AlwaysServed, AtMostTen, ServedAlike}
 use Rattle.frame_pool.specs.declared.DecoderId.{DecoderId}
 use Rattle.frame_pool.specs.declared.Pool.{Pool}
@@ -191,12 +191,6 @@ Given r = r ≡ GiveReply.Given
 
 abbrev Few : DecoderId → Pool → Type 0
 Few who p = heldBy (otherDecoder who) p ≤ share
-
-all-head : {A : Type 0} {Q : A → Type 0} {x : A} {xs : List A} → All Q (x ∷ xs) → Q x
-all-head (more q a) = q
-
-all-tail : {A : Type 0} {Q : A → Type 0} {x : A} {xs : List A} → All Q (x ∷ xs) → All Q xs
-all-tail (more q a) = a
 
 -- its own take: served exactly when it holds fewer than ten
 own-take : (who : DecoderId) (p : Pool) (rest : List TakeAnswer) (os : List OwnCall) → Counted p → Few who p → Takes p who (otherDecoder who)

@@ -63,6 +63,22 @@ highest-top (suc n) l g h k e =
 abbrev pub Marks : List ℕ → Type 0
 Marks l = (i : ℕ) → getD l i 0 ≤ 2
 
+its-own : (d : DecoderId) → one (markOf d) (markOf d) ≡ 1
+its-own DecoderId.A = refl
+its-own DecoderId.B = refl
+
+not-free : (d : DecoderId) → one (markOf d) 0 ≡ 0
+not-free DecoderId.A = refl
+not-free DecoderId.B = refl
+
+not-held : (d : DecoderId) → one 0 (markOf d) ≡ 0
+not-held DecoderId.A = refl
+not-held DecoderId.B = refl
+
+not-the-other-s : (d : DecoderId) → one (markOf d) (markOf (otherDecoder d)) ≡ 0
+not-the-other-s DecoderId.A = refl
+not-the-other-s DecoderId.B = refl
+
 -- a frame has gone from the pool to decoder d; e is the other
 pub record Took (p q : Pool) (d e : DecoderId) : Type 0 where
   pub frees : freeFrames q + 1 ≡ freeFrames p
@@ -83,29 +99,19 @@ module _ (p : Pool) (f : ℕ) (h : f < frameCount) (n : length (p .marks) ≡ fr
       (λ t. rw (getD-set-other (p .marks) f i v 0 (λ x. eqb-false f i t (sym x))) (a i))
 
   pub took : (d : DecoderId) → getD (p .marks) f 0 ≡ 0 → Took p (withMark p f (markOf d)) d (otherDecoder d)
-  took DecoderId.A e =
+  took d e =
+      let o = otherDecoder d in
       record {
-        frees = omega (arith, rw e at (marked-count 0 1));
-        own = omega (arith, rw e at (marked-count 1 1));
-        other = omega (arith, rw e at (marked-count 2 1));
-      }
-  took DecoderId.B e =
-      record {
-        frees = omega (arith, rw e at (marked-count 0 2));
-        own = omega (arith, rw e at (marked-count 2 2));
-        other = omega (arith, rw e at (marked-count 1 2));
+        frees = omega (arith, rw e at (marked-count 0 (markOf d)), not-free d);
+        own = omega (arith, rw e at (marked-count (markOf d) (markOf d)), not-held d, its-own d);
+        other = omega (arith, rw e at (marked-count (markOf o) (markOf d)), not-held o, not-the-other-s d);
       }
 
   pub gave : (d : DecoderId) → getD (p .marks) f 0 ≡ markOf d → Took (withMark p f 0) p d (otherDecoder d)
-  gave DecoderId.A e =
+  gave d e =
+      let o = otherDecoder d in
       record {
-        frees = omega (arith, rw e at (marked-count 0 0));
-        own = omega (arith, rw e at (marked-count 1 0));
-        other = omega (arith, rw e at (marked-count 2 0));
-      }
-  gave DecoderId.B e =
-      record {
-        frees = omega (arith, rw e at (marked-count 0 0));
-        own = omega (arith, rw e at (marked-count 2 0));
-        other = omega (arith, rw e at (marked-count 1 0));
+        frees = omega (arith, rw e at (marked-count 0 0), not-free d);
+        own = omega (arith, rw e at (marked-count (markOf d) 0), not-held d, its-own d);
+        other = omega (arith, rw e at (marked-count (markOf o) 0), not-held o, not-the-other-s d);
       }

@@ -1,6 +1,6 @@
 -- Counting marks and looking for the highest free frame, and the ways of a take and of a give.
 use Prim.Native.Nat.{ℕ, zero, suc, _+_, _-_, _≤_, _<_}
-use mathlib.Core.Path.{_≡_, refl, sym, ap, _∙_}
+use mathlib.Core.Path.{_≡_, refl, sym, _∙_}
 use mathlib.Core.Bool.{Bool, true, false, not}
 use mathlib.Core.List.{List}
 use native.Mathlib.Omega.{arith}
@@ -15,7 +15,6 @@ use Rattle.frame_pool.specs.declared.DecoderId.{DecoderId}
 use Rattle.frame_pool.specs.declared.Pool.{Pool}
 use Rattle.frame_pool.specs.declared.TakeReply.{TakeReply}
 use Rattle.frame_pool.specs.declared.TakeCall.{TakeCall}
-use Rattle.frame_pool.specs.declared.GiveCall.{GiveCall}
 
 -- ---- Counting, from frame 0 on
 

@@ -8,8 +8,7 @@ use lib.ListN.{length, take, drop, length-append, length-drop, drop-of-length-le
 use borrow.Author.Tests.{le-leb, lt-leb}
 use Rattle.layout.specs.Choice.{pick}
 use Rattle.layout.specs.Puts.{putAt}
-use Rattle.layout.specs.Sizes.{saturated}
-use Rattle.layout.proofs.Cases.{by-cases}
+use Rattle.layout.proofs.Cases.{by-cases, pick-true, pick-false}
 use Rattle.layout.proofs.PutLaws.{Put, put-then, putAt-none, putAt-length}
 use Rattle.key_lines.specs.Lines.{column, columnsBytes, LinePut}
 use Rattle.key_lines.specs.declared.Column.the-variants.{Number}
@@ -23,9 +22,8 @@ use Rattle.frame_pool.specs.declared.TakeReply.{TakeReply}
 use Rattle.frame_pool.specs.declared.GiveReply.{GiveReply}
 use Rattle.frame_pool.specs.declared.TakeCall.{TakeCall}
 use Rattle.frame_pool.specs.declared.GiveCall.{GiveCall}
-use Rattle.frame_pool_lines.specs.PoolLines.{saidBy, takeLine, giveLine, callAnswer, afterSaid, CallAnswered}
+use Rattle.frame_pool_lines.specs.PoolLines.{saidBy, takeLine, giveLine, callAnswer, nextProgress, afterSaid, CallAnswered}
 use Rattle.frame_pool_lines.specs.PoolText.{answersFrom, progressFrom, answersIn, answeredIn, thenCalls, callsSaid, LinesAreCalls, PortionsAnswered}
-use Rattle.frame_pool_lines.proofs.SaysLaws.{picks-first, picks-second}
 use Rattle.frame_pool_lines.specs.declared.says.SaidCall.{SaidCall}
 use Rattle.frame_pool_lines.specs.declared.Progress.{Progress}
 use Rattle.frame_pool_lines.specs.declared.LinesAnswered.{LinesAnswered}
@@ -55,8 +53,8 @@ lines-short g (l ∷ ls) =
     let x = callAnswer g (saidBy l) in
     let y = answersFrom (afterSaid g (saidBy l)) ls in
     by-cases (g .ended)
-    (λ t. rw (picks-first [] (x ++ y) t) (omega arith))
-    (λ t. rw (picks-second [] (x ++ y) t) (omega (arith, length-append x y, answer-short g (saidBy l), lines-short (afterSaid g (saidBy l)) ls)))
+    (λ t. rw (pick-true [] (x ++ y) t) (omega arith))
+    (λ t. rw (pick-false [] (x ++ y) t) (omega (arith, length-append x y, answer-short g (saidBy l), lines-short (afterSaid g (saidBy l)) ls)))
 
 -- so the answers to a text have a room
 pub answers-few : (g : Progress) (text : List ℕ) → length (answersFrom g (parted text)) ≤ 16 * length text
@@ -64,14 +62,14 @@ answers-few g text = omega (arith, lines-short g (parted text), parted-few text)
 
 -- ---- A call and its answer
 
-module _ {g : Progress} {d : DecoderId} {before after : List ℕ} {at n number : ℕ} where
-  pub taken-by : {call : TakeCall} → call ≡ takeOf (g .pool) d → LinePut before at (takeLine (call .reply)) after n → number ≡ saturated (g .number + 1)
-      → CallAnswered g (SaidCall.Take d) before at after (record { progress = record { pool = call .pool; number = number; ended = false }; length = n })
-  taken-by e p f = rw (e, f) (record { line = rw e at p; progress = refl })
+module _ {g : Progress} {d : DecoderId} {before after : List ℕ} {at n : ℕ} {q : Progress} where
+  pub taken-by : {call : TakeCall} → call ≡ takeOf (g .pool) d → LinePut before at (takeLine (call .reply)) after n → q ≡ nextProgress (call .pool) (g .number)
+      → CallAnswered g (SaidCall.Take d) before at after (record { progress = q; length = n })
+  taken-by e p f = record { line = rw e at p; progress = f ∙ ap (λ (c : TakeCall). nextProgress (c .pool) (g .number)) e }
 
-  pub given-by : {call : GiveCall} {frame : ℕ} → call ≡ giveOf (g .pool) d frame → LinePut before at (giveLine (call .reply)) after n → number ≡ saturated (g .number + 1)
-      → CallAnswered g (SaidCall.Give d frame) before at after (record { progress = record { pool = call .pool; number = number; ended = false }; length = n })
-  given-by e p f = rw (e, f) (record { line = rw e at p; progress = refl })
+  pub given-by : {call : GiveCall} {frame : ℕ} → call ≡ giveOf (g .pool) d frame → LinePut before at (giveLine (call .reply)) after n → q ≡ nextProgress (call .pool) (g .number)
+      → CallAnswered g (SaidCall.Give d frame) before at after (record { progress = q; length = n })
+  given-by e p f = record { line = rw e at p; progress = f ∙ ap (λ (c : GiveCall). nextProgress (c .pool) (g .number)) e }
 
 -- ---- By the case that a match has found
 
@@ -159,11 +157,11 @@ module _ {g : Progress} {text before after : List ℕ} {p : Progress} {n at : �
         let rest = parted (linesAfter (drop at text)) in
         let t = saidBy (wholeLine (drop at text)) in
         let given : answersFrom p (parted (drop at text)) ≡ x ++ answersFrom (r .progress) (parted (drop next text)) =
-        ap (answersFrom p) next-parted ∙ picks-second [] (callAnswer p t ++ answersFrom (afterSaid p t) rest) e
+        ap (answersFrom p) next-parted ∙ pick-false [] (callAnswer p t ++ answersFrom (afterSaid p t) rest) e
         ∙ ap (λ (u : SaidCall). callAnswer p u ++ answersFrom (afterSaid p u) rest) (sym said) ∙ ap (λ (z : Progress). x ++ answersFrom z rest) (sym (c .progress))
         ∙ ap (λ (m : List ℕ). x ++ answersFrom (r .progress) (parted m)) (sym d) in
         let left : progressFrom p (parted (drop at text)) ≡ progressFrom (r .progress) (parted (drop next text)) =
-        ap (progressFrom p) next-parted ∙ picks-second p (progressFrom (afterSaid p t) rest) e
+        ap (progressFrom p) next-parted ∙ pick-false p (progressFrom (afterSaid p t) rest) e
         ∙ ap (λ (u : SaidCall). progressFrom (afterSaid p u) rest) (sym said) ∙ ap (λ (z : Progress). progressFrom z rest) (sym (c .progress))
         ∙ ap (λ (m : List ℕ). progressFrom (r .progress) (parted m)) (sym d) in
         record {
@@ -201,7 +199,7 @@ pub lines-calls : LinesAreCalls
 unfolding LinesAreCalls progressFrom callsSaid poolAfter
 lines-calls g [] e = refl
 lines-calls g (l ∷ ls) e =
-    ap (λ (q : Progress). q .pool) (picks-second g (progressFrom (afterSaid g (saidBy l)) ls) e)
+    ap (λ (q : Progress). q .pool) (pick-false g (progressFrom (afterSaid g (saidBy l)) ls) e)
     ∙ after-pool g (saidBy l) ls (lines-calls (afterSaid g (saidBy l)) ls)
 
 -- ---- Portions
@@ -212,8 +210,8 @@ progress-append g [] ms = refl
 progress-append g (l ∷ ls) ms =
     let h = afterSaid g (saidBy l) in
     by-cases (g .ended)
-    (λ t. picks-first g (progressFrom h (ls ++ ms)) t ∙ sym (stays g ms t) ∙ ap (λ (q : Progress). progressFrom q ms) (sym (picks-first g (progressFrom h ls) t)))
-    (λ t. picks-second g (progressFrom h (ls ++ ms)) t ∙ progress-append h ls ms ∙ ap (λ (q : Progress). progressFrom q ms) (sym (picks-second g (progressFrom h ls) t)))
+    (λ t. pick-true g (progressFrom h (ls ++ ms)) t ∙ sym (stays g ms t) ∙ ap (λ (q : Progress). progressFrom q ms) (sym (pick-true g (progressFrom h ls) t)))
+    (λ t. pick-false g (progressFrom h (ls ++ ms)) t ∙ progress-append h ls ms ∙ ap (λ (q : Progress). progressFrom q ms) (sym (pick-false g (progressFrom h ls) t)))
 
 answers-append : (g : Progress) (ls ms : List (List ℕ)) → answersFrom g (ls ++ ms) ≡ answersFrom g ls ++ answersFrom (progressFrom g ls) ms
 unfolding answersFrom progressFrom
@@ -225,13 +223,13 @@ answers-append g (l ∷ ls) ms =
     let left : Progress → List ℕ = λ q. answersFrom q ms in
     by-cases (g .ended)
     (λ t.
-    picks-first [] (x ++ answersFrom h (ls ++ ms)) t ∙ sym (silent g ms t) ∙ ap left (sym (picks-first g (progressFrom h ls) t))
-    ∙ ap first (sym (picks-first [] (x ++ answersFrom h ls) t)))
+    pick-true [] (x ++ answersFrom h (ls ++ ms)) t ∙ sym (silent g ms t) ∙ ap left (sym (pick-true g (progressFrom h ls) t))
+    ∙ ap first (sym (pick-true [] (x ++ answersFrom h ls) t)))
     (λ t.
-    picks-second [] (x ++ answersFrom h (ls ++ ms)) t ∙ ap (λ (l : List ℕ). x ++ l) (answers-append h ls ms)
+    pick-false [] (x ++ answersFrom h (ls ++ ms)) t ∙ ap (λ (l : List ℕ). x ++ l) (answers-append h ls ms)
     ∙ sym (append-assoc x (answersFrom h ls) (answersFrom (progressFrom h ls) ms))
-    ∙ ap (λ (q : Progress). (x ++ answersFrom h ls) ++ answersFrom q ms) (sym (picks-second g (progressFrom h ls) t))
-    ∙ ap first (sym (picks-second [] (x ++ answersFrom h ls) t)))
+    ∙ ap (λ (q : Progress). (x ++ answersFrom h ls) ++ answersFrom q ms) (sym (pick-false g (progressFrom h ls) t))
+    ∙ ap first (sym (pick-false [] (x ++ answersFrom h ls) t)))
 
 pub portions : PortionsAnswered
 portions =

@@ -1,13 +1,12 @@
 -- What a line says, test by test.
 use Prim.Native.Nat.{ℕ, _<_, _≤_}
-use mathlib.Core.Path.{_≡_, refl, sym, ap, _∙_}
+use mathlib.Core.Path.{_≡_, sym, ap, _∙_}
 use mathlib.Core.Bool.{Bool, true, false}
 use mathlib.Core.List.{List, [], _∷_}
 use lib.ListN.{length}
 use borrow.Author.Tests.{eq-eqb, ne-eqb, lt-ltb, le-ltb}
-use Rattle.layout.specs.Choice.{pick}
 use Rattle.layout.specs.Lists.{same}
-use Rattle.layout.proofs.Cases.{apart}
+use Rattle.layout.proofs.Cases.{apart, pick-true, pick-false}
 use Rattle.layout.proofs.ListLaws.{decides}
 use Rattle.script_words.specs.Texts.{wordFrom, wordCount}
 use Rattle.script_words.specs.Numbers.{decimalOf, isDecimal}
@@ -20,13 +19,6 @@ use Rattle.frame_pool_lines.specs.declared.says.SaidCall.{SaidCall}
 
 pub same-by : (r : Bool) (x y : List ℕ) → (r ≡ true → x ≡ y) × (x ≡ y → r ≡ true) → r ≡ same x y
 same-by r x y h = decides r (h .0) (λ f e. apart (sym (h .1 e) ∙ f))
-
-module _ {A : Type 0} {b : Bool} (x y : A) where
-  pub picks-first : b ≡ true → pick b x y ≡ x
-  picks-first e = ap (λ (c : Bool). pick c x y) e
-
-  pub picks-second : b ≡ false → pick b x y ≡ y
-  picks-second e = ap (λ (c : Bool). pick c x y) e
 
 -- ---- A word
 
@@ -45,16 +37,16 @@ module _ (w : List ℕ) where
 
   pub says-frame : {n : Decimal} → n ≡ decimalOf 15 w → n .good ≡ true → n ≡ frameSaid w
   unfolding frameSaid
-  says-frame e h = e ∙ sym (picks-first (decimalOf 15 w) (record { good = isDecimal w; value = frameCount }) (sym (ap (λ (d : Decimal). d .good) e) ∙ h))
+  says-frame e h = e ∙ sym (pick-true (decimalOf 15 w) (record { good = isDecimal w; value = frameCount }) (sym (ap (λ (d : Decimal). d .good) e) ∙ h))
 
   pub says-no-frame : {n : Decimal} {d : Bool} → n ≡ decimalOf 15 w → n .good ≡ false → d ≡ isDecimal w
       → _≡_ {A = Decimal} (record { good = d; value = frameCount }) (frameSaid w)
   unfolding frameSaid
   says-no-frame e h f =
-      rw f (sym (picks-second (decimalOf 15 w) (record { good = isDecimal w; value = frameCount }) (sym (ap (λ (d : Decimal). d .good) e) ∙ h)))
+      rw f (sym (pick-false (decimalOf 15 w) (record { good = isDecimal w; value = frameCount }) (sym (ap (λ (d : Decimal). d .good) e) ∙ h)))
 
 pub says-good : {w : DecoderWord} {d : DecoderId} {n : Decimal} → w ≡ DecoderWord.Named d → n .good ≡ true → SaidCall.Give d (n .value) ≡ giveSaid w n
-says-good {w} {d} {n} e h = sym (rw e (picks-first (SaidCall.Give d (n .value)) SaidCall.Neither h))
+says-good {w} {d} {n} e h = sym (rw e (pick-true (SaidCall.Give d (n .value)) SaidCall.Neither h))
 
 -- ---- A line by its words
 

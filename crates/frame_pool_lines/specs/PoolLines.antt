@@ -15,6 +15,7 @@ use Rattle.script_words.specs.Numbers.{decimalOf, isDecimal}
 use Rattle.script_words.specs.declared.numbers.Number.{Number as Decimal}
 use Rattle.frame_pool.specs.FramePool.{frameCount, newPool, takeOf, giveOf}
 use Rattle.frame_pool.specs.declared.DecoderId.{DecoderId}
+use Rattle.frame_pool.specs.declared.Pool.{Pool}
 use Rattle.frame_pool.specs.declared.TakeReply.{TakeReply}
 use Rattle.frame_pool.specs.declared.GiveReply.{GiveReply}
 use Rattle.frame_pool_lines.specs.declared.says.DecoderWord.{DecoderWord}
@@ -81,9 +82,13 @@ callAnswer g (SaidCall.Take d) = takeLine (takeOf (g .pool) d .reply)
 callAnswer g (SaidCall.Give d f) = giveLine (giveOf (g .pool) d f .reply)
 callAnswer g SaidCall.Neither = wrongLineIs (g .number)
 
+-- After the line of this number, which said a call; a number has 64 bits.
+abbrev pub nextProgress : Pool → (number : ℕ) → Progress
+nextProgress p n = record { pool = p; number = saturated (n + 1); ended = false }
+
 abbrev pub afterSaid : Progress → SaidCall → Progress
-afterSaid g (SaidCall.Take d) = record { pool = takeOf (g .pool) d .pool; number = saturated (g .number + 1); ended = false }
-afterSaid g (SaidCall.Give d f) = record { pool = giveOf (g .pool) d f .pool; number = saturated (g .number + 1); ended = false }
+afterSaid g (SaidCall.Take d) = nextProgress (takeOf (g .pool) d .pool) (g .number)
+afterSaid g (SaidCall.Give d f) = nextProgress (giveOf (g .pool) d f .pool) (g .number)
 afterSaid g SaidCall.Neither = record { pool = g .pool; number = g .number; ended = true }
 
 -- A call's answer put into a lent buffer from an offset on, where it fits, and what is left after it.

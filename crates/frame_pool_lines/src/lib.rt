@@ -19,7 +19,7 @@ ghost use lib.ListN.{length};
 ghost use Rattle.layout.specs.Puts.{putAt};
 ghost use Rattle.layout.specs.Sizes.{saturated};
 ghost use Rattle.key_lines.specs.Lines.{LinePut};
-ghost use Rattle.frame_pool_lines.specs.PoolLines.{takeLine, giveLine, wrongLineIs, newProgress, CallAnswered};
+ghost use Rattle.frame_pool_lines.specs.PoolLines.{takeLine, giveLine, wrongLineIs, newProgress, nextProgress, CallAnswered};
 ghost use Rattle.frame_pool_lines.specs.declared.says.SaidCall.{SaidCall};
 ghost use Rattle.frame_pool_lines.specs.PoolText.{answersIn, answeredIn, PoolTextCases, LinesAreCalls, PortionsAnswered};
 
@@ -93,6 +93,16 @@ fn next_number(n: u64) -> u64
     if n < u64::MAX { n + 1 } else { n }
 }
 
+fn next_progress(pool: Pool, number: u64) -> Progress
+    ensures { λ r. ⌜ r ≡ nextProgress pool number ⌝ }
+{
+    Progress {
+        pool,
+        number: next_number(number),
+        ended: false,
+    }
+}
+
 fn answer_take(from: Progress, who: DecoderId, out: &mut [u8], at: usize) -> LinesAnswered
     ensures { λ r. ⌜ CallAnswered from (SaidCall.Take who) (now (out .entry)) at (now (out .exit)) r ⌝ }
 {
@@ -100,17 +110,9 @@ fn answer_take(from: Progress, who: DecoderId, out: &mut [u8], at: usize) -> Lin
     let call = take(pool, who);
     let reply = call.reply;
     let length = put_take(out, at, reply);
-    let pool = call.pool;
-    let number = next_number(from.number);
-    let ended = false;
-    LinesAnswered {
-        progress: Progress {
-            pool,
-            number,
-            ended,
-        },
-        length,
-    }
+    let after = call.pool;
+    let progress = next_progress(after, from.number);
+    LinesAnswered { progress, length }
 }
 
 fn answer_give(
@@ -126,17 +128,9 @@ fn answer_give(
     let call = give(pool, who, frame);
     let reply = call.reply;
     let length = put_give(out, at, reply);
-    let pool = call.pool;
-    let number = next_number(from.number);
-    let ended = false;
-    LinesAnswered {
-        progress: Progress {
-            pool,
-            number,
-            ended,
-        },
-        length,
-    }
+    let after = call.pool;
+    let progress = next_progress(after, from.number);
+    LinesAnswered { progress, length }
 }
 
 fn answer_neither(from: Progress, out: &mut [u8], at: usize) -> LinesAnswered
@@ -145,12 +139,11 @@ fn answer_neither(from: Progress, out: &mut [u8], at: usize) -> LinesAnswered
     let pool = from.pool;
     let number = from.number;
     let length = put_wrong(out, at, number);
-    let ended = true;
     LinesAnswered {
         progress: Progress {
             pool,
             number,
-            ended,
+            ended: true,
         },
         length,
     }

@@ -22,6 +22,12 @@ module _ {A : Type 0} {Q : A → Type 0} where
   pub all-snoc : {xs : List A} {x : A} → All Q xs → Q x → All Q (xs ++ (x ∷ []))
   all-snoc a q = all-append a (more q none)
 
+  pub all-head : {x : A} {xs : List A} → All Q (x ∷ xs) → Q x
+  all-head (more q a) = q
+
+  pub all-tail : {x : A} {xs : List A} → All Q (x ∷ xs) → All Q xs
+  all-tail (more q a) = a
+
   pub all-each : {R : A → Type 0} {xs : List A} → ((x : A) → Q x → R x) → All Q xs → All R xs
   all-each f none = none
   all-each f (more {x = x} q a) = more (f x q) (all-each f a)

@@ -1,7 +1,6 @@
 -- Opening field by field: what is still to be done after each read, and what a refused one comes to.
 use Prim.Native.Nat.{ℕ, zero, suc, _+_, _-_, _≤_, _<_}
 use mathlib.Core.Path.{_≡_, refl, sym, ap, _∙_}
-use mathlib.Core.Bool.{Bool, true, false}
 use mathlib.Core.List.{List, [], _++_}
 use native.Mathlib.Omega.{arith}
 use lib.ListN.{length, drop, replicate}
@@ -63,12 +62,6 @@ on-value q g e = rw e
 
 pub on-refused : {A : Type 0} (q : Read A) {n : ℕ} (g : A → Opened) → q ≡ Read.refused n → on q Opened.refused g ≡ Opened.refused n
 on-refused q g e = rw e
-
-pub pick-true : {b : Bool} (x y : Opened) → b ≡ true → pick b x y ≡ x
-pick-true x y e = rw e
-
-pub pick-false : {b : Bool} (x y : Opened) → b ≡ false → pick b x y ≡ y
-pick-false x y e = rw e
 
 -- the magic
 module _ {q : Read (List ℕ)} {r : MagicRead} (e : magicSays r ≡ q) where

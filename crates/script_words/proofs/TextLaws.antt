@@ -5,7 +5,7 @@ use mathlib.Core.Bool.{Bool, true, false, not, Bool·beq}
 use mathlib.Core.List.{List, [], _∷_, _++_}
 use native.Mathlib.Omega.{arith}
 use native.Mathlib.Numerals.{add-one}
-use lib.ListN.{length, getD, take, drop, length-take, length-drop, length-append, drop-of-length-le}
+use lib.ListN.{length, getD, take, drop, length-take, length-drop, drop-of-length-le}
 use lib.Dec.{ltb}
 use lib.Seq.{drop-cons, drop-length, drop-drop, take-suc, take-length, length-take-le}
 use borrow.Author.Tests.{ltb-true, lt-ltb, eq-eqb, ne-eqb}

@@ -1,5 +1,3 @@
-use mathlib.Core.Path.{sym}
-use native.Mathlib.Omega.{arith}
 use borrow.Author.Needs.{needs}
 use Rattle.frame_pool.proofs.PoolLaws.{not-held, held-inside, given-back}
 use Rattle.frame_pool.proofs.give.Statement.{statement}

@@ -4,7 +4,7 @@ use Rattle.frame_pool_lines.proofs.answer_take.Statement.{statement}
 use Rattle.frame_pool_lines.proofs.answer_take.Tie as tie
 
 returns : tie.Need-returns
-returns c = taken-by (c .before .before .before .before .before .before .take .ensures) (c .before .before .before .before .put-take .ensures) (c .next-number .ensures)
+returns c = taken-by (c .before .before .before .before .before .before .take .ensures) (c .before .before .before .before .put-take .ensures) (c .next-progress .ensures)
 
 pub answer-take-spec : {M : Type 1} → statement M
 answer-take-spec =

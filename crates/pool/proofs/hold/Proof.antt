@@ -1,6 +1,5 @@
 use Prim.Native.Nat.{_-_}
 use native.Mathlib.Omega.{arith}
-use borrow.Author.Needs.{needs}
 use Rattle.pool.proofs.PortionLaws.{Moving, moving-none, moving-long, moving-more, moving-all}
 use Rattle.pool.proofs.hold.Statement.{statement}
 use Rattle.pool.proofs.hold.Tie as tie

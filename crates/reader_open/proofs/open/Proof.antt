@@ -4,8 +4,9 @@ use denote.Ref.{now}
 use Rattle.layout.proofs.FieldLaws.{u32, got, missed, beside-read, beside-number}
 use Rattle.reader.specs.declared.LoopStart.{LoopStart}
 use Rattle.reader.specs.OpeningAndReading.{opening}
+use Rattle.layout.proofs.Cases.{pick-true, pick-false}
 use Rattle.reader_open.proofs.OpenLaws.{atWalk, atRight, atLeft, atChannels, atCount, atRate, too-long, not-long, refuses, on-value}
-use Rattle.reader_open.proofs.OpenLaws.{on-refused, pick-true, pick-false, magic-right, magic-refused, opens-to, walk-stops}
+use Rattle.reader_open.proofs.OpenLaws.{on-refused, magic-right, magic-refused, opens-to, walk-stops}
 use Rattle.reader.proofs.OpenedLaws.{and-readable}
 use borrow.Author.Needs.{needs}
 use Rattle.reader_open.proofs.open.Statement.{statement}

@@ -1,5 +1,4 @@
 use Prim.Native.Nat.{_-_}
-use native.Mathlib.Omega.{arith}
 use lib.ListN.{length}
 use borrow.Author.Needs.{needs}
 use Rattle.script_words.proofs.NumberLaws.{Digits, digits-none, no-digits, digits-low, digits-high, digits-more, digits-all}

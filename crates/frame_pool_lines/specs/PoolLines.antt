@@ -69,8 +69,8 @@ giveLine GiveReply.Given = line (68 ∷ 79 ∷ 78 ∷ 69 ∷ []) []
 giveLine (GiveReply.Refused n) = stopLine n
 
 -- LINE and the number of a line that says no call
-abbrev pub wrongLineIs : (number : ℕ) → List ℕ
-wrongLineIs n = line (76 ∷ 73 ∷ 78 ∷ 69 ∷ []) (Number n ∷ [])
+abbrev pub noCallLine : (number : ℕ) → List ℕ
+noCallLine n = line (76 ∷ 73 ∷ 78 ∷ 69 ∷ []) (Number n ∷ [])
 
 -- ---- A line, on what the lines before it have left: the pool, the line's number, whether one of them said no call
 
@@ -80,7 +80,7 @@ newProgress = record { pool = newPool; number = 1; ended = false }
 abbrev pub callAnswer : Progress → SaidCall → List ℕ
 callAnswer g (SaidCall.Take d) = takeLine (takeOf (g .pool) d .reply)
 callAnswer g (SaidCall.Give d f) = giveLine (giveOf (g .pool) d f .reply)
-callAnswer g SaidCall.Neither = wrongLineIs (g .number)
+callAnswer g SaidCall.Neither = noCallLine (g .number)
 
 -- After the line of this number, which said a call; a number has 64 bits.
 abbrev pub nextProgress : Pool → (number : ℕ) → Progress

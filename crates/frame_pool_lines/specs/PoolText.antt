@@ -11,12 +11,12 @@ use Rattle.script_words.specs.Texts.{parted, wholeLines}
 use Rattle.frame_pool.specs.FrameLists.{PoolCall, poolAfter}
 use Rattle.frame_pool.specs.declared.TakeReply.{TakeReply}
 use Rattle.frame_pool.specs.declared.GiveReply.{GiveReply}
-use Rattle.frame_pool_lines.specs.PoolLines.{saidBy, takeLine, giveLine, wrongLineIs, callAnswer, afterSaid, newProgress}
+use Rattle.frame_pool_lines.specs.PoolLines.{saidBy, takeLine, giveLine, noCallLine, callAnswer, afterSaid, newProgress}
 use Rattle.frame_pool_lines.specs.declared.says.SaidCall.{SaidCall}
 use Rattle.frame_pool_lines.specs.declared.Progress.{Progress}
 use Rattle.frame_pool_lines.specs.declared.LinesAnswered.{LinesAnswered}
 
--- ---- The lines one after the other: "prints for each a line", and after a line that says no call "nothing more"
+-- ---- The lines one after the other: each is answered by a line, and after one that says no call there is nothing more
 
 unfoldable pub answersFrom : Progress → List (List ℕ) → List ℕ
 answersFrom g [] = []
@@ -50,10 +50,10 @@ smallText =
 
 pub record PoolTextCases : Type 0 where
   pub answers : poolText smallText
-      ≡ takeLine (TakeReply.Frame 15) ++ stopLine 33 ++ giveLine GiveReply.Given ++ stopLine 33 ++ wrongLineIs 5
+      ≡ takeLine (TakeReply.Frame 15) ++ stopLine 33 ++ giveLine GiveReply.Given ++ stopLine 33 ++ noCallLine 5
   -- a last line without its end is one; and it says nothing with a word too many
   pub last : poolText (84 ∷ 65 ∷ 75 ∷ 69 ∷ 32 ∷ 66 ∷ []) ≡ takeLine (TakeReply.Frame 15)
-  pub more : poolText (84 ∷ 65 ∷ 75 ∷ 69 ∷ 32 ∷ 66 ∷ 32 ∷ 66 ∷ []) ≡ wrongLineIs 1
+  pub more : poolText (84 ∷ 65 ∷ 75 ∷ 69 ∷ 32 ∷ 66 ∷ 32 ∷ 66 ∷ []) ≡ noCallLine 1
 
 -- ---- What holds of it
 

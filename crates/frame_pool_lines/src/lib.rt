@@ -19,7 +19,7 @@ ghost use lib.ListN.{length};
 ghost use Rattle.layout.specs.Puts.{putAt};
 ghost use Rattle.layout.specs.Sizes.{saturated};
 ghost use Rattle.key_lines.specs.Lines.{LinePut};
-ghost use Rattle.frame_pool_lines.specs.PoolLines.{takeLine, giveLine, wrongLineIs, newProgress, nextProgress, CallAnswered};
+ghost use Rattle.frame_pool_lines.specs.PoolLines.{takeLine, giveLine, noCallLine, newProgress, nextProgress, CallAnswered};
 ghost use Rattle.frame_pool_lines.specs.declared.says.SaidCall.{SaidCall};
 ghost use Rattle.frame_pool_lines.specs.PoolText.{answersIn, answeredIn, PoolTextCases, LinesAreCalls, PortionsAnswered};
 
@@ -74,8 +74,8 @@ fn put_give(out: &mut [u8], at: usize, reply: GiveReply) -> usize
     }
 }
 
-fn put_wrong(out: &mut [u8], at: usize, number: u64) -> usize
-    ensures { λ n. ⌜ LinePut (now (out .entry)) at (wrongLineIs number) (now (out .exit)) n ⌝ }
+fn put_no_call(out: &mut [u8], at: usize, number: u64) -> usize
+    ensures { λ n. ⌜ LinePut (now (out .entry)) at (noCallLine number) (now (out .exit)) n ⌝ }
 {
     let none = Column::Nothing;
     put_line(
@@ -138,7 +138,7 @@ fn answer_neither(from: Progress, out: &mut [u8], at: usize) -> LinesAnswered
 {
     let pool = from.pool;
     let number = from.number;
-    let length = put_wrong(out, at, number);
+    let length = put_no_call(out, at, number);
     LinesAnswered {
         progress: Progress {
             pool,

@@ -1,6 +1,6 @@
 -- A table's rule, shown at all of its entries at once; and a bound on the curve's.
-use Prim.Native.Nat.{ℕ, zero, suc, _*_, _≤_, _<_}
-use mathlib.Core.Path.{_≡_, refl}
+use Prim.Native.Nat.{ℕ, zero, suc, _+_, _*_, _≤_, _<_}
+use mathlib.Core.Path.{_≡_, ap, _∙_}
 use mathlib.Core.List.{List, [], _∷_}
 use native.Mathlib.Nat.{le-of-suc-le-suc, not-suc-le-zero}
 use native.Mathlib.Omega.{arith}
@@ -8,16 +8,20 @@ use lib.ListN.{getD}
 use Rattle.whole_numbers.proofs.WholeLaws.{mul-bound}
 use Rattle.fader.specs.Fader.{levelLimit, curveEntry}
 
--- f 0, f 1, .. f (n - 1): the one computed test is that a table is this list
-abbrev pub listed : (ℕ → ℕ) → ℕ → List ℕ
-listed f zero = []
-listed f (suc n) = f 0 ∷ listed (λ (k : ℕ). f (suc k)) n
+-- f from, f (from + 1), .. n of them: the one computed test is that a table is this list, from 0 on. It counts up, so that few steps compute it and the
+-- checker tells the number that a wrong table has.
+abbrev pub listed : (f : ℕ → ℕ) → (from n : ℕ) → List ℕ
+listed f from zero = []
+listed f from (suc n) = f from ∷ listed f (suc from) n
+
+rule-from : (f : ℕ → ℕ) (from n k : ℕ) → k < n → getD (listed f from n) k 0 ≡ f (from + k)
+rule-from f from zero k h = absurd (not-suc-le-zero h)
+rule-from f from (suc n) zero h = ap f (omega arith)
+rule-from f from (suc n) (suc k) h = rule-from f (suc from) n k (le-of-suc-le-suc h) ∙ ap f (omega arith)
 
 -- and this turns it into the rule at each entry
-pub rule : (f : ℕ → ℕ) (n k : ℕ) → k < n → getD (listed f n) k 0 ≡ f k
-rule f zero k h = absurd (not-suc-le-zero h)
-rule f (suc n) zero h = refl
-rule f (suc n) (suc k) h = rule (λ (k : ℕ). f (suc k)) n k (le-of-suc-le-suc h)
+pub rule : (f : ℕ → ℕ) (n k : ℕ) → k < n → getD (listed f 0 n) k 0 ≡ f k
+rule f n k h = rule-from f 0 n k h ∙ ap f (omega arith)
 
 pub square-bound : {k : ℕ} → k ≤ levelLimit → k * k ≤ levelLimit * levelLimit
 square-bound h = mul-bound h h

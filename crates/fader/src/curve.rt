@@ -8,10 +8,11 @@ pub(crate) fn entry(level: usize) -> u32
     requires { ⌜ level ≤ levelLimit ⌝ }
     ensures { λ e. ⌜ e ≡ curveEntry level ⌝ }
 {
-    CURVE[level]
+    CURVE[level] as u32
 }
 
-const CURVE: [u32; LEVELS] = [
+// Entry 1,023, the greatest, is 32,768: 16 bits without a sign hold it, an i16 does not.
+const CURVE: [u16; LEVELS] = [
     0,
     0,
     0,

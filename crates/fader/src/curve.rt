@@ -1,4 +1,4 @@
-// The fader's curve: a constant table, reached through `entry` alone, so that how it is stored can change behind it.
+// The fader's curve (document 02, Cards 3 and 5): a constant table, reached through `entry` alone, so that how it is stored can change behind it.
 use crate::LEVELS;
 ghost use mathlib.Core.Path.{_≡_};
 ghost use Prim.Native.Nat.{_≤_};

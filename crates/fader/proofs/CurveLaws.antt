@@ -19,7 +19,7 @@ rule-from f from zero k h = absurd (not-suc-le-zero h)
 rule-from f from (suc n) zero h = ap f (omega arith)
 rule-from f from (suc n) (suc k) h = rule-from f (suc from) n k (le-of-suc-le-suc h) ∙ ap f (omega arith)
 
--- and this turns it into the rule at each entry
+-- The test gives the rule at each entry.
 pub rule : (f : ℕ → ℕ) (n k : ℕ) → k < n → getD (listed f 0 n) k 0 ≡ f k
 rule f n k h = rule-from f 0 n k h ∙ ap f (omega arith)
 

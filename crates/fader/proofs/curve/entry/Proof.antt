@@ -11,6 +11,7 @@ returns : tie.Need-returns
 unfolding curveEntry
 returns c = rule curveEntry 1024 (c .args .level) (omega (arith, c .pre))
 
+-- so the number, made wider, fits as its entry does
 cast-result : tie.Need-cast-result
 cast-result c = rw (returns c) (fits-below tt (entry-bound (c .args .level) (c .pre)))
 

@@ -1,4 +1,6 @@
 // A block of ADPCM data decoded into lent places (document 02, Card 1), as decode.rs does it.
+#![tactic(auto)]
+
 ghost use Rattle.std.specs.Prelude.{◌+◌, ◌-◌, ◌*◌, ◌≤◌, ◌<◌, ◌≡◌, ◌++◌, length, get_or, take, drop};
 ghost use Rattle.layout.specs.Answers.{context_says};
 ghost use Rattle.layout.specs.Records.{adpcm_bytes, adpcm_samples};

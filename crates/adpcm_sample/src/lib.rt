@@ -1,4 +1,6 @@
 // One ADPCM sample of a half byte (document 02, Card 1).
+#![tactic(auto)]
+
 ghost use Rattle.std.specs.Prelude.{◌≡◌, pos};
 ghost use Rattle.adpcm_sample.specs.Sample.{signed_half, predicted, scale, sample};
 

@@ -1,4 +1,6 @@
 // Cue calls on a kept record, one after the other: the cursor and the cues are in lent bytes.
+#![tactic(auto)]
+
 ghost use Rattle.std.specs.Prelude.{◌≡◌, ◌+◌, ◌/◌, ◌<◌, ◌≤◌, length};
 ghost use Rattle.layout.specs.Puts.{put_at};
 ghost use Rattle.reader.specs.declared.HpsReader.{HpsReader};

@@ -1,4 +1,6 @@
 // Begin, cue and finish on a record in lent bytes.
+#![tactic(auto)]
+
 ghost use Rattle.std.specs.Prelude.{◌≡◌};
 ghost use Rattle.writer.specs.Loading.{mode_of};
 ghost use Rattle.writer.specs.Calls.{begin_of, cue_of, finish_of};

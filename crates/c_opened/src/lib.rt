@@ -1,4 +1,5 @@
 // The opening record in lent bytes, as a program in C or Rust keeps it.
+#![tactic(auto)]
 
 pub mod fields; // fields.rt: a u64 put into a lent record
 pub mod opened; // opened.rt: the opening record in bytes

@@ -1,4 +1,6 @@
 // Push on a record in lent bytes.
+#![tactic(auto)]
+
 ghost use Rattle.std.specs.Prelude.{◌≡◌, ◌<◌, eqb};
 ghost use Rattle.layout.specs.Choice.{pick};
 ghost use Rattle.writer.specs.Calls.{push_of};

@@ -1,4 +1,5 @@
 // What a push says of a channel, and a cue of the table, in bytes.
+#![tactic(auto)]
 
 pub mod loader; // loader.rt: the writer's record in bytes
 pub mod places; // places.rt: where the fields of the writer's record lie

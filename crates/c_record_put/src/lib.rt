@@ -1,4 +1,6 @@
 // The writer's record put into lent bytes after a push: numbers and sides.
+#![tactic(auto)]
+
 ghost use Rattle.std.specs.Prelude.{◌≡◌, ◌++◌, ◌+◌, ◌<◌, ◌≤◌, length};
 ghost use Rattle.layout.specs.Puts.{put_at};
 ghost use Rattle.c_record_put.specs.KeptRecord.{side_bytes, pushed_bytes};

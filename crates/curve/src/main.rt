@@ -1,4 +1,6 @@
 // The fader's curve, computed from its rule, on standard output; `help` says how it is used.
+#![tactic(auto)]
+
 ghost use Rattle.std.specs.Prelude.{◌≡◌};
 ghost use Rattle.fader_curve.specs.CurveText.{curve_text};
 

@@ -1,4 +1,6 @@
 // The marking key of every moment of a loading; `help` says how it is used.
+#![tactic(auto)]
+
 use cut_answer::files::{read_file, script_room};
 use cut_answer::{Ask, answer};
 use io::{buffer, read_full, write_all};

@@ -1,4 +1,6 @@
 // What `cut` answers: a script's calls on an earlier slot, and the listings of every moment.
+#![tactic(auto)]
+
 use cut_report::{print_line, script_line};
 use cut_write_log::WriteLog;
 use io::{print_decimal, write_all};

@@ -1,4 +1,6 @@
 // The examples: each is answered into a file and held to its listing. Prints a line for each.
+#![tactic(auto)]
+
 use check::same;
 use cut_answer::files::read_file;
 use cut_answer::{Ask, answer};

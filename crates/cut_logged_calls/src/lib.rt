@@ -1,4 +1,6 @@
 // Loading calls whose writes are logged: each gets a lent buffer of zeros of its own.
+#![tactic(auto)]
+
 ghost use Rattle.std.specs.Prelude.{◌≡◌, replicate};
 ghost use Rattle.writer.specs.Loading.{push_args};
 ghost use Rattle.writer.specs.Calls.{Good, begin_of, push_of, finish_of};

@@ -1,4 +1,6 @@
 // The lines of `cut` beside listings, and how one is printed.
+#![tactic(auto)]
+
 ghost use Rattle.std.specs.Prelude.{◌≡◌, [], ◌∷◌, length};
 ghost use Rattle.key_lines.specs.Lines.{line};
 ghost use Rattle.key_lines.specs.declared.Column.TheVariants.{Nothing};

@@ -1,4 +1,6 @@
 // Writes logged for later: their places, and their bytes one after the other.
+#![tactic(auto)]
+
 ghost use Rattle.std.specs.Prelude.{◌≡◌, [], ◌∷◌};
 ghost use Rattle.writer.specs.Calls.{places_in};
 ghost use Rattle.cut_write_log.specs.WriteLog.{empty_log, logging, log_one, log_all};

@@ -1,4 +1,6 @@
 // A channel's samples, 16 bits little-endian, on standard output; `help` says how it is used.
+#![tactic(auto)]
+
 ghost use Rattle.std.specs.Prelude.{◌≡◌, ◌+◌, length};
 ghost use Rattle.layout.specs.Refusals.{slot_limit};
 ghost use Rattle.io.specs.Counts.{IsPrefixLen};

@@ -1,4 +1,6 @@
 // A channel decoded and printed, block after block: 16 bits little-endian.
+#![tactic(auto)]
+
 ghost use Rattle.std.specs.Prelude.{◌≡◌, ◌≤◌, length, take, drop};
 ghost use Rattle.pcm_bytes.specs.Pcm.{pcm_bytes};
 ghost use Rattle.reader.specs.OpeningAndReading.{Readable};

@@ -1,4 +1,6 @@
 // Samples, 16 bits little-endian, faded from standard input to standard output; `help` says how it is used.
+#![tactic(auto)]
+
 ghost use Rattle.std.specs.Prelude.{◌-◌, ◌%◌, ◌≤◌, ◌<◌, ◌≡◌, length, get_or, set};
 
 use fader::FadeReply;

@@ -1,4 +1,6 @@
 // Walk-in fader (document 02, Card 3): samples faded in place by the curve's entry of a level.
+#![tactic(auto)]
+
 ghost use Rattle.std.specs.Prelude.{◌≡◌, ◌≤◌};
 ghost use Rattle.whole_numbers.specs.Whole.{floor_div};
 ghost use Rattle.fader.specs.Fader.{faded, faded_by, fading, fade_reply, samples_after};

@@ -1,4 +1,6 @@
 // The fader's curve as text (document 02, Card 3): each entry computed from the rule, not from the table.
+#![tactic(auto)]
+
 ghost use Rattle.std.specs.Prelude.{◌+◌, ◌≤◌, ◌≡◌, length};
 ghost use Rattle.layout.specs.Puts.{put_at};
 ghost use Rattle.fader.specs.Fader.{level_limit, curve_entry};

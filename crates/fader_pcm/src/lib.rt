@@ -1,4 +1,6 @@
 // Samples as bytes, 16 bits little-endian, faded in place (document 02, Card 3).
+#![tactic(auto)]
+
 ghost use Rattle.std.specs.Prelude.{◌/◌, ◌≤◌, min, ◌≡◌, length};
 ghost use Rattle.fader.specs.Fader.{level_limit, fade_reply};
 ghost use Rattle.fader_pcm.specs.FadedPcm.{pcm_fading, bytes_after, PortionsFaded, first_faded};

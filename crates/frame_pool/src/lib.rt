@@ -1,4 +1,6 @@
 // Two decoders on one frame pool (document 02, Card 4): a take, a give, and what holds after every list of them.
+#![tactic(auto)]
+
 ghost use Rattle.std.specs.Prelude.{◌≡◌, ◌-◌, ltb};
 ghost use Rattle.frame_pool.specs.FramePool.{share, other_decoder, new_pool, take_of, give_of};
 ghost use Rattle.frame_pool.specs.HighestFree.{HighestFree};

@@ -1,6 +1,8 @@
 // Every pool that calls can reach, by how many frames each decoder holds, against the rule computed plainly.
 // A line for each pair: HELD, what A and B hold, and 1 or 0 for whether a take of A and of B is served there.
 // The word is DIFF where a reply is not the rule's, on the way or there.
+#![tactic(auto)]
+
 use crate::routes::{a_first, b_first, exchanged, in_turns, reached};
 use crate::trial::{Trial, agrees, serves_take};
 use frame_pool::DecoderId;

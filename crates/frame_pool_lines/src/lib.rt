@@ -1,4 +1,6 @@
 // Takes and gives as lines of a text, and the lines of their answers (document 02, Card 4).
+#![tactic(auto)]
+
 ghost use Rattle.std.specs.Prelude.{◌≡◌, ◌+◌, length};
 ghost use Rattle.layout.specs.Puts.{put_at};
 ghost use Rattle.layout.specs.Sizes.{saturated};

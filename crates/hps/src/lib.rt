@@ -1,4 +1,5 @@
 // The calls for programs in C and Rust: numbers and byte slices go in and out, and a record is kept in bytes that the caller lends (link/include/hps.h).
+#![tactic(auto)]
 
 pub mod loading; // loading.rt: the loading calls and the estimate
 pub mod reading; // reading.rt: the reading calls and the listing

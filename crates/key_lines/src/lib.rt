@@ -1,5 +1,7 @@
 // The lines of the listing (document 01, "Marking key and estimate"), each put into a lent buffer from an offset on.
 // Where a line fits wholly its length is answered; else nothing is put, and 0.
+#![tactic(auto)]
+
 ghost use Rattle.std.specs.Prelude.{◌≡◌};
 ghost use Rattle.layout.specs.Records.{length_in};
 ghost use Rattle.key_lines.specs.Lines.{stop_line, head_line, loop_column, block_line, loop_line, cue_line, LinePut};

@@ -1,4 +1,6 @@
 // The listing of a slot, as `key` prints it (document 01, "Marking key and estimate").
+#![tactic(auto)]
+
 use reader::CueIterator;
 
 pub mod listing; // listing.rt: line by line, as many lines as fit

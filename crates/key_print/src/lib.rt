@@ -1,4 +1,6 @@
 // Listings and the lines of refusals, printed.
+#![tactic(auto)]
+
 ghost use Rattle.std.specs.Prelude.{◌≡◌, true, false, List, ℕ, ◌≤◌, length, take, drop, replicate};
 ghost use Rattle.layout.specs.Lists.{same};
 ghost use Rattle.reader.specs.OpeningAndReading.{Readable};

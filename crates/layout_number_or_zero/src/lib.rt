@@ -1,4 +1,6 @@
 // Big-endian numbers at an offset of some bytes. A number that is not wholly there reads as 0.
+#![tactic(auto)]
+
 ghost use Rattle.std.specs.Prelude.{◌≡◌};
 ghost use Rattle.layout_number_or_zero.specs.NumberOrZero.{half_at, signed_at, word_at, long_at};
 

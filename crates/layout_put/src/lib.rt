@@ -1,4 +1,6 @@
 // Bytes and big-endian fields, put into a lent buffer at an offset: where they do not fit wholly, nothing is changed.
+#![tactic(auto)]
+
 ghost use Rattle.std.specs.Prelude.{◌≡◌, [], ◌∷◌, ◌++◌, replicate};
 ghost use Rattle.std.specs.Int.{w16};
 ghost use Rattle.std.proofs.Common.{of_z};

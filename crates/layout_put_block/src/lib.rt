@@ -1,5 +1,7 @@
 // A block as it is written: its header, and after it filler and padded data, put into a lent buffer from an offset on. What does not fit
 // wholly changes nothing.
+#![tactic(auto)]
+
 ghost use Rattle.std.specs.Prelude.{◌≡◌};
 ghost use mathlib.Core.List.{[], ◌∷◌, ◌++◌, flat_map};
 ghost use Rattle.layout.specs.Records.{context_bytes, cue_bytes, fillers, padded};

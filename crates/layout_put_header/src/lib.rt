@@ -1,4 +1,6 @@
 // The file header and its channels as they are written, put into a lent buffer: where a record does not fit wholly, nothing is changed.
+#![tactic(auto)]
+
 ghost use Rattle.std.specs.Prelude.{◌≡◌};
 ghost use mathlib.Core.List.{◌++◌, flat_map};
 ghost use Rattle.layout.specs.Choice.{pick};

@@ -1,4 +1,6 @@
 // Lengths, bytes and samples. Every argument is taken, and no sum wraps.
+#![tactic(auto)]
+
 ghost use Rattle.std.specs.Prelude.{◌≡◌, ◌+◌};
 ghost use Rattle.layout.specs.Records.{padded_size, adpcm_bytes, address_to_byte_up, adpcm_samples, num_samples};
 ghost use Rattle.layout.specs.Refusals.{size_limit};

@@ -1,4 +1,6 @@
 // Samples as bytes, 16 bits little-endian.
+#![tactic(auto)]
+
 ghost use Rattle.std.specs.Prelude.{◌+◌, ◌*◌, ◌/◌, min, ◌≡◌, ◌++◌, length, take, drop};
 ghost use Rattle.std.specs.Int.{w16};
 ghost use Rattle.std.proofs.Common.{to_z};

@@ -1,4 +1,6 @@
 // Takes and gives of two decoders on one frame pool, from standard input, and their answers on standard output; `help` says how it is used.
+#![tactic(auto)]
+
 ghost use Rattle.std.specs.Prelude.{◌-◌, ◌≤◌, ◌<◌, ◌≡◌, length, drop};
 ghost use Rattle.std.proofs.Math.Seq.{paste};
 ghost use Rattle.script_words.specs.Texts.{parted};

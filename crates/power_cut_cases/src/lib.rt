@@ -1,4 +1,6 @@
 // Document 01's marked cases, computed over the definitions.
+#![tactic(auto)]
+
 ghost use Rattle.power_cut_cases.specs.MarkedForTheTable.{MarkedCases};
 ghost use Rattle.power_cut_cases.specs.UsedOnLists.{WorkedSlot, StereoSlot, WorkedEstimate, StereoEstimate};
 

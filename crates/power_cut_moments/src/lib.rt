@@ -1,4 +1,6 @@
 // What a power cut leaves of the writes, moment by moment.
+#![tactic(auto)]
+
 ghost use Rattle.std.specs.Prelude.{◌≡◌, ◌≤◌, take};
 ghost use Rattle.writer.specs.WritesAndCuttingRule.{write, writes_in, most_writes};
 ghost use Rattle.power_cut_moments.specs.Moments.{reached, slot_at, reached_next, next_byte, EveryMoment, PowerCutAtMoments};

@@ -1,4 +1,6 @@
 // Block read (document 01, "Opening and reading").
+#![tactic(auto)]
+
 ghost use Rattle.std.specs.Prelude.{◌≡◌, get_or};
 ghost use Rattle.layout.specs.Records.{no_channel};
 ghost use Rattle.reader.specs.OpeningAndReading.{Readable, block_read};

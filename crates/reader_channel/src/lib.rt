@@ -1,4 +1,6 @@
 // A channel reading that carries the slot and its position, thin over the calls on plain parameters.
+#![tactic(auto)]
+
 ghost use Rattle.std.specs.Prelude.{◌≡◌};
 ghost use Rattle.reader.specs.OpeningAndReading.{Readable, block_read, data_remaining};
 ghost use Rattle.reader_block.specs.BlockAnswers.{block_call, block_data, block_start, bytes_on};

@@ -1,4 +1,6 @@
 // The cue call and its cursor (document 01, "Cues read back"): the first cursor, whether the Loop stands at a block, a cue's start, the next cue.
+#![tactic(auto)]
+
 ghost use Rattle.std.specs.Prelude.{◌≡◌, ◌+◌, ◌%◌, ◌^◌};
 ghost use Rattle.std.specs.Int.{w64};
 ghost use Rattle.std.proofs.Common.{of_z};

@@ -1,4 +1,6 @@
 // Hearing the block (document 02, Card 1): a channel's blocks decoded to 16-bit samples, one a call, as decode.rs does it.
+#![tactic(auto)]
+
 ghost use Rattle.std.specs.Prelude.{◌≡◌, length};
 ghost use Rattle.reader.specs.OpeningAndReading.{Readable, block_read};
 ghost use Rattle.reader_decode.specs.Decoding.{new_decoder, not_adpcm, due_early, DecodeAnswer, on_block, decoding, decode_call, samples_after};

@@ -1,4 +1,6 @@
 // Opening a slot (document 01, "Opening and reading").
+#![tactic(auto)]
+
 ghost use Rattle.std.specs.Prelude.{◌≡◌};
 ghost use Rattle.layout.specs.Refusals.{wrong_count};
 ghost use Rattle.reader.specs.OpeningAndReading.{Opened, opening, Readable};

@@ -1,4 +1,6 @@
 // Addresses remaining (document 01, "Opening and reading").
+#![tactic(auto)]
+
 ghost use Rattle.std.specs.Prelude.{◌≡◌};
 ghost use Rattle.reader.specs.OpeningAndReading.{Readable, data_remaining};
 ghost use Rattle.reader_remaining.specs.RemainingAnswers.{remaining_reply};

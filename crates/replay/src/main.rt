@@ -1,6 +1,8 @@
 // Recorded cases of the Rust's answers, and of the estimate, held to our calls. Standard input has the cases one after the other, each a kind
 // (1 slot, 2 loading, 3 estimate, 4 decoding), a length (both u32, big-endian) and so many bytes; tests/oracle/cases.py makes them and says what lies where.
 // Prints each case in which something is other than recorded, with its place there, then the counts.
+#![tactic(auto)]
+
 use crate::decoding::decoding_case;
 use crate::estimates::estimate_case;
 use crate::loading::loading_case;

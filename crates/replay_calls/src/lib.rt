@@ -1,4 +1,6 @@
 // The call that a recorded step says, and the estimate that a recorded case asks for: numbers that are not there read as 0, so that any bytes say one.
+#![tactic(auto)]
+
 ghost use Rattle.std.specs.Prelude.{◌<◌, ◌≡◌};
 ghost use Rattle.writer.specs.Loading.{mode_of};
 ghost use Rattle.writer.specs.Calls.{Good, called, cue_of, push_of};

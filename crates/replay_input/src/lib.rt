@@ -1,4 +1,6 @@
 // Parts and lengths of the recorded input. A part that is not wholly there is empty, a length 0.
+#![tactic(auto)]
+
 use layout::fields::inside;
 use layout_number_or_zero::word;
 

@@ -1,5 +1,7 @@
 // What a recorded call must answer, and the server's part after it: the writes that are handed out are carried out, and after each the slot is opened, up to
 // finish's last write with 2 or 3, then as a stream.
+#![tactic(auto)]
+
 ghost use Rattle.std.specs.Prelude.{◌≡◌};
 ghost use Rattle.reader.specs.OpeningAndReading.{opening};
 ghost use Rattle.replay_server.specs.ServersPart.{is_due, applied, write_applied, header_applied, reply_applied};

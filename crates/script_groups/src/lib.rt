@@ -1,4 +1,6 @@
 // Which lines of a script belong together: BEGN's and those after it, a PUSH's and its CHAN lines.
+#![tactic(auto)]
+
 ghost use Rattle.std.specs.Prelude.{◌≡◌, [], drop, get_or};
 ghost use Rattle.script_words.specs.Texts.{line_of, lines_of};
 ghost use Rattle.script_groups.specs.Order.{lent_by, sides_in, Said, Starts};

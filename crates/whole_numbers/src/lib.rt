@@ -1,4 +1,6 @@
 // Whole numbers that fit 16 bits: their product, and a number brought into them. Every argument is taken, and nothing wraps.
+#![tactic(auto)]
+
 ghost use Rattle.std.specs.Prelude.{◌≡◌, ◌*ℤ◌};
 ghost use Rattle.whole_numbers.specs.Whole.{clamped, RoundedDown};
 

@@ -1,4 +1,6 @@
 // The cues that a block takes of the table, and their bytes (document 01, "Loading").
+#![tactic(auto)]
+
 ghost use Rattle.std.specs.Prelude.{◌≡◌, ◌+◌, ◌-◌, ◌*◌, ◌≤◌, ◌<◌, length};
 ghost use Rattle.std.proofs.Math.Seq.{slice};
 ghost use Rattle.layout.specs.Records.{padded_size, cue_bytes, cue_point_size};

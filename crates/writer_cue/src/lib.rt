@@ -1,4 +1,6 @@
 // The cue call (document 01, "Loading"): the order of cues, the table that holds them in that order, and the call.
+#![tactic(auto)]
+
 ghost use Rattle.std.specs.Prelude.{◌≡◌, ◌∷◌, ◌++◌, ◌+◌, ◌-◌, ◌<◌, ◌≤◌, take, drop, ltb};
 ghost use Rattle.writer.specs.Loading.{rank, range_length, zero_range, cue_order};
 ghost use Rattle.layout.specs.Refusals.{cue_limit, start_limit};

@@ -1,4 +1,6 @@
 // The estimate of a finished length (document 01, "Marking key and estimate").
+#![tactic(auto)]
+
 ghost use Rattle.std.specs.Prelude.{◌≡◌, [], ◌∷◌, ◌+◌, ◌*◌, ◌≤◌};
 ghost use Rattle.layout.specs.Records.{padded_size, adpcm_bytes, block_header_size};
 ghost use Rattle.layout.specs.Refusals.{due, first_due, too_short, too_large, mono_limit};

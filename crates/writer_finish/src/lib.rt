@@ -1,4 +1,6 @@
 // The finish call (document 01, "Loading"): the file header, handed out as three writes.
+#![tactic(auto)]
+
 ghost use Rattle.std.specs.Prelude.{◌≡◌, ◌++◌, ◌≤◌, ◌<◌, ◌%◌, length, drop};
 ghost use Rattle.writer.specs.Loading.{finish_refusal, filled, second, header_for, header_writes};
 ghost use Rattle.writer.specs.WritesAndCuttingRule.{handed};

@@ -1,4 +1,6 @@
 // Push: the block's bytes by its plan, and the record afterwards.
+#![tactic(auto)]
+
 ghost use mathlib.Core.List.{flat_map};
 ghost use Rattle.std.specs.Prelude.{◌≡◌, ◌+◌, length};
 ghost use Rattle.layout.specs.Records.{padded};

@@ -1,4 +1,6 @@
 // What a push is to do, worked out of numbers alone (document 01, "Loading"): the first number due, the block's header and size, and the stream after it.
+#![tactic(auto)]
+
 ghost use Rattle.std.specs.Prelude.{◌≡◌, ℕ, ◌+◌, ◌*◌, ◌<◌, ◌≤◌, ◌^◌, eqb};
 ghost use Rattle.layout.specs.Sizes.{saturated};
 ghost use Rattle.layout.specs.Records.{adpcm_samples, data_after};

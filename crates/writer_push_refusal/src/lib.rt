@@ -1,4 +1,6 @@
 // Push's refusals (document 01, "Loading") in the groups of its order: each gives its first number due, 0 where none is.
+#![tactic(auto)]
+
 ghost use Rattle.std.specs.Prelude.{◌≡◌};
 ghost use Rattle.layout.specs.Refusals.{first_due};
 ghost use Rattle.writer.specs.Loading.{differ, changed, state_due, zero_in_each, no_addresses, blocks_due, rate_due, length_due, same_z, data_due, coefficients_due, early_due, room_due};

@@ -26,14 +26,14 @@ ghost use Rattle.cut_logged_calls.specs.LoggedCalls.{log_size};
 use times::show_times;
 
 // What is asked: all, or the listing of one moment.
-#[derive(Drop)]
+#[derive(Clone, Copy)]
 pub enum Ask {
     All,
     Moment(u64),
 }
 
 // What is answered: that the script is too long, its first wrong line, begin's refusal, that the moment is past the last, which is named, or what is asked.
-#[derive(Drop)]
+#[derive(Clone, Copy)]
 pub enum Answered {
     LongScript,
     WrongLine(usize),

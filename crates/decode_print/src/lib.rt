@@ -15,7 +15,7 @@ use reader_decode::{DecodeReply, Decoder, decode, new_decoder};
 use reader_open::open;
 
 // How many samples of a channel were handed to the system, whether it took them all, and the reply that ended them.
-#[derive(Drop)]
+#[derive(Clone, Copy)]
 pub struct Heard {
     pub reply: DecodeReply,
     pub length: usize,
@@ -23,7 +23,7 @@ pub struct Heard {
 }
 
 // The same on the way, with the decoder after them.
-#[derive(Drop)]
+#[derive(Clone, Copy)]
 struct Hearing {
     reply: DecodeReply,
     decoder: Decoder,

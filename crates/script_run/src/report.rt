@@ -5,7 +5,7 @@ use script_lines::kinds::Kind;
 use writer::{MOST_WRITES, Reply};
 
 // Where calls are reported, and whether they are.
-#[derive(Drop)]
+#[derive(Clone, Copy)]
 pub struct Output {
     pub fd: i32,
     pub verbose: bool,

@@ -1,11 +1,11 @@
--- The cases compute.
 use mathlib.Core.Path.{refl}
 use Rattle.whole_numbers.specs.Whole.{floor_div}
 use Rattle.fader.specs.Fader.{curve_entry, faded, faded_by, fading}
-use Rattle.fader.proofs.fader_cases.Statement.{statement}
-use Rattle.fader.proofs.fader_cases.Tie as tie
+use Rattle.fader.proofs.fader_cases.Goals as goal
 
-returns : tie.Need-returns
+-- The cases compute.
+
+pub returns : goal.returns
 unfolding floor_div curve_entry faded faded_by fading
 returns c =
     record {
@@ -20,6 +20,3 @@ returns c =
       none = refl;
       last = refl;
     }
-
-pub fader-cases-spec : {M : Type 1} → statement M
-fader-cases-spec = tie.close (tie.spec returns)

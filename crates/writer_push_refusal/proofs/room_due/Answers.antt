@@ -4,8 +4,7 @@ use native.Mathlib.Omega.{arith}
 use borrow.Author.Tests.{lt-ltb, le-ltb}
 use Rattle.layout.specs.Refusals.{first_due}
 use Rattle.writer.specs.Loading.{room_due}
-use Rattle.writer_push_refusal.proofs.room_due.Statement.{statement}
-use Rattle.writer_push_refusal.proofs.room_due.Tie as tie
+use Rattle.writer_push_refusal.proofs.room_due.Goals as goal
 
 module _ (slot at size lent : ℕ) where
   no_room : slot - at < size → 24 ≡ first_due (room_due slot at size lent)
@@ -24,17 +23,14 @@ module _ (slot at size lent : ℕ) where
   unfolding room_due first_due
   fine a h l = rw (le-ltb slot (at + size) (omega arith), le-ltb lent size l)
 
-returns : tie.Need-returns
-returns c = search begins-past
+pub returns-then-slot-offset : goal.returns-then-slot-offset
+returns-then-slot-offset c = search begins-past
 
-returns-2 : tie.Need-returns-2
-returns-2 c = search no_room
+pub returns-then-slot-offset-2 : goal.returns-then-slot-offset-2
+returns-then-slot-offset-2 c = search no_room
 
-returns-3 : tie.Need-returns-3
-returns-3 c = search short-lent
+pub returns-then-lent-size : goal.returns-then-lent-size
+returns-then-lent-size c = search short-lent
 
-returns-4 : tie.Need-returns-4
-returns-4 c = search fine
-
-pub room-due-spec : {M : Type 1} → statement M
-room-due-spec = tie.close (tie.spec returns returns-2 returns-3 returns-4)
+pub returns : goal.returns
+returns c = search fine

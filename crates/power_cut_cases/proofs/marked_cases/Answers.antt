@@ -1,4 +1,3 @@
--- The table computes.
 use mathlib.Core.List.{flat_map}
 use mathlib.Core.Path.{refl}
 use Rattle.layout.specs.Lists.{filter, any, sum, same, first_index}
@@ -18,8 +17,9 @@ use Rattle.power_cut.specs.LoadingBook.{base_of, end_of_blocks, last_pushed, tak
 use Rattle.power_cut.specs.FinishedFile.{next_of, blocks_bytes, file_header, file_bytes}
 use Rattle.power_cut.specs.PowerCut.{answers_of, writes_of, nth_cue}
 use Rattle.power_cut_cases.specs.MarkedForTheTable.{cues, points_to, carry, table, MarkedCases}
-use Rattle.power_cut_cases.proofs.marked_cases.Statement.{statement}
-use Rattle.power_cut_cases.proofs.marked_cases.Tie as tie
+use Rattle.power_cut_cases.proofs.marked_cases.Goals as goal
+
+-- The table computes.
 
 marked : MarkedCases
 unfolding filter any sum flat_map same first_index be16 u16_at be32 u32_at be_z16 i16s field padded_size context_bytes context_at channel_bytes channel_at read_channel no_channel read_magic file_header_bytes
@@ -31,8 +31,5 @@ unfolding filter any sum flat_map same first_index be16 u16_at be32 u32_at be_z1
     cues_of next_of blocks_bytes file_header file_bytes answers_of writes_of nth_cue cues points_to carry table MarkedCases
 marked = refl
 
-returns : tie.Need-returns
+pub returns : goal.returns
 returns c = marked
-
-pub marked-cases-spec : {M : Type 1} → statement M
-marked-cases-spec = tie.close (tie.spec returns)

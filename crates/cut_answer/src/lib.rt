@@ -26,7 +26,7 @@ ghost use Rattle.cut_logged_calls.specs.LoggedCalls.{log_size};
 use times::show_times;
 
 // What is asked: all, or the listing of one moment.
-#[derive(Drop)]
+#[derive(Clone, Copy)]
 pub enum Ask {
     All,
     Moment(u64),

@@ -16,7 +16,7 @@ mod routes; // routes.rt: the calls that lead to a pair
 mod trial; // trial.rt: a pool and the rule, side by side
 
 // What the routes to a pair found: whether one came there, whether every reply was the rule's, 1 or 0 for a take served there.
-#[derive(Drop)]
+#[derive(Clone, Copy)]
 struct Found {
     reached: bool,
     same: bool,

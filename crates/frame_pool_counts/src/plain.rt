@@ -59,7 +59,7 @@ fn highest_free(holders: &[u8; FRAMES]) -> usize
 }
 
 // What a call comes to by the rule: the number of the frame or of the refusal, and who holds each frame after it.
-#[derive(Drop)]
+#[derive(Clone, Copy)]
 pub(crate) struct RuleCall {
     pub(crate) accepted: bool,
     pub(crate) number: usize,

@@ -3,7 +3,7 @@ use crate::plain::{FRAMES, NOBODY, RuleCall, plain_give, plain_take};
 use frame_pool::{DecoderId, GiveReply, Pool, TakeReply, give, new_pool, take};
 
 // The pool, who holds each frame by the rule, whether every reply was the rule's, and whether the rule served every take.
-#[derive(Drop)]
+#[derive(Clone, Copy)]
 pub(crate) struct Trial {
     pool: Pool,
     pub(crate) holders: [u8; FRAMES],

@@ -25,7 +25,7 @@ const CURSOR_SIZE: usize = 32;
 
 const CUE_SIZE: usize = 16;
 
-#[derive(Drop)]
+#[derive(Clone, Copy)]
 struct CuesFilled {
     number: u32,
     cues: usize,

@@ -18,7 +18,7 @@ use writer_cue::cue;
 use writer_finish::finish;
 
 // The number of a call, 0 where it is accepted; the place of the write that it hands out, or what else it gives.
-#[derive(Drop)]
+#[derive(Clone, Copy)]
 pub struct KeptCall {
     pub number: u32,
     pub offset: usize,

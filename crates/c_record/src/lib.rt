@@ -15,7 +15,7 @@ use layout_number_or_zero::{half, long, signed, word};
 use writer::{ChannelBlock, Cue, CueKind, LoopAt, Looping};
 
 // The fields of the writer's record but its table, as they lie in its bytes.
-#[derive(Drop)]
+#[derive(Clone, Copy)]
 pub struct Fields {
     pub slot: usize,
     pub channels: usize,

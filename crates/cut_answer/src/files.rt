@@ -15,7 +15,7 @@ pub fn script_room() -> [u8; 1048577]
 }
 
 // Whether the file could be opened, and how many bytes of it stand in the lent buffer.
-#[derive(Drop)]
+#[derive(Clone, Copy)]
 pub struct Got {
     pub good: bool,
     pub length: usize,

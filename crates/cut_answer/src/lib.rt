@@ -33,7 +33,7 @@ pub enum Ask {
 }
 
 // What is answered: that the script is too long, its first wrong line, begin's refusal, that the moment is past the last, which is named, or what is asked.
-#[derive(Drop)]
+#[derive(Clone, Copy)]
 pub enum Answered {
     LongScript,
     WrongLine(usize),

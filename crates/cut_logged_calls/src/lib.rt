@@ -19,7 +19,7 @@ use writer_push::push;
 pub const LENT: usize = KEY_LIMIT;
 
 // What a call leaves: the record, the reply, and the writes with its own.
-#[derive(Drop)]
+#[derive(Clone, Copy)]
 pub struct Made {
     pub writer: HpsWriter,
     pub reply: Reply,

@@ -16,7 +16,7 @@ use writer::{Place, Reply};
 const LINE_ROOM: usize = 4 + 3 * 21 + 1;
 
 // A line, at the start of its room.
-#[derive(Drop)]
+#[derive(Clone, Copy)]
 pub struct ReportLine {
     bytes: [u8; LINE_ROOM],
     length: usize,

@@ -10,7 +10,7 @@ use layout_put::put_bytes;
 use writer::{MOST_WRITES, Place, Reply};
 
 // As many writes as a loading hands out.
-#[derive(Drop)]
+#[derive(Clone, Copy)]
 pub struct WriteLog {
     pub count: usize,
     pub total: usize,

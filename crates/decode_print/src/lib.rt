@@ -16,7 +16,7 @@ use reader_open::open;
 use std::io::Write;
 
 // How many samples of a channel were handed to the system, whether it took them all, and the reply that ended them.
-#[derive(Drop)]
+#[derive(Clone, Copy)]
 pub struct Heard {
     pub reply: DecodeReply,
     pub length: usize,
@@ -24,7 +24,7 @@ pub struct Heard {
 }
 
 // The same on the way, with the decoder after them.
-#[derive(Drop)]
+#[derive(Clone, Copy)]
 struct Hearing {
     reply: DecodeReply,
     decoder: Decoder,

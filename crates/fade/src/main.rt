@@ -24,7 +24,7 @@ LEVEL is 0 (silence) to 1,023 (as they are). A refusal is a line STOP and its nu
 }
 
 // How many bytes at the start of the room are held for the next portion: 1 where half a sample is.
-#[derive(Drop)]
+#[derive(Clone, Copy)]
 struct Turn {
     held: usize,
     more: bool,

@@ -15,7 +15,7 @@ pub const LEVEL_LIMIT: usize = 1023;
 
 pub const LEVELS: usize = LEVEL_LIMIT + 1;
 
-#[derive(Drop)]
+#[derive(Clone, Copy)]
 pub enum FadeReply {
     Refused(u32),
     Faded,

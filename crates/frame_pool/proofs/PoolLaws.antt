@@ -76,13 +76,13 @@ module _ (p : Pool) (d : DecoderId) where
 
 -- ---- What the code has found by its calls
 
-not_true : (t : Bool) → not t ≡ true → t ≡ false
-not_true true h = sym h
-not_true false h = refl
+not-true : (t : Bool) → not t ≡ true → t ≡ false
+not-true true h = sym h
+not-true false h = refl
 
-not_false : (t : Bool) → not t ≡ false → t ≡ true
-not_false true h = refl
-not_false false h = sym h
+not-false : (t : Bool) → not t ≡ false → t ≡ true
+not-false true h = refl
+not-false false h = sym h
 
 module _ (p : Pool) (d o : DecoderId) (free mark held : ℕ) (t : Bool) (a : free ≡ count_marked frame_count 0 p.marks) (b : o ≡ other_decoder d)
     (m : mark ≡ mark_of o) (h : held ≡ count_marked frame_count mark p.marks) (k : t ≡ ltb (share - held) free) where
@@ -90,23 +90,23 @@ module _ (p : Pool) (d o : DecoderId) (free mark held : ℕ) (t : Bool) (a : fre
   test_is = k ∙ rw (a, h, m, b)
 
   pub refused_by : not t ≡ true → refused_take p ≡ take_of p d
-  refused_by n = sym (take_refused p d (sym test_is ∙ not_true t n))
+  refused_by n = sym (take_refused p d (sym test_is ∙ not-true t n))
 
   pub served_by : (f own : ℕ) → f ≡ highest_free frame_count p.marks → own ≡ mark_of d → not t ≡ false
       → ◌≡◌ {A = TakeCall} (record { reply = TakeReply.Frame f; pool = with_mark p f own }) (take_of p d)
-  served_by f own e g n = rw (e, g) (sym (take_served p d (sym test_is ∙ not_false t n)))
+  served_by f own e g n = rw (e, g) (sym (take_served p d (sym test_is ∙ not-false t n)))
 
 module _ (p : Pool) (d : DecoderId) (mark f : ℕ) (t : Bool) (m : mark ≡ mark_of d) (k : t ≡ has_mark p.marks mark f) where
   held-is : t ≡ is_held_by d p f
   held-is = k ∙ rw m
 
   pub not_held : not t ≡ true → refused_give p ≡ give_of p d f
-  not_held n = sym (give_refused p d f (sym held-is ∙ not_true t n))
+  not_held n = sym (give_refused p d f (sym held-is ∙ not-true t n))
 
   pub given_back : not t ≡ false → accepted_give p f ≡ give_of p d f
-  given_back n = sym (give_accepted p d f (sym held-is ∙ not_false t n))
+  given_back n = sym (give_accepted p d f (sym held-is ∙ not-false t n))
 
   pub held-inside : not t ≡ false → f < frame_count
   held-inside n =
       by_cases (ltb f frame_count) (λ s. ltb-true f frame_count s)
-      (λ s. apart (sym (not_false t n) ∙ k ∙ mark_outside p.marks mark f (ltb-false f frame_count s)))
+      (λ s. apart (sym (not-false t n) ∙ k ∙ mark_outside p.marks mark f (ltb-false f frame_count s)))

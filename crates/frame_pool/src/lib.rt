@@ -15,38 +15,38 @@ pub const FRAMES: usize = 16;
 // How many frames each decoder can count on.
 const SHARE: usize = 6;
 
-#[derive(Drop)]
+#[derive(Clone, Copy)]
 pub enum DecoderId {
     A,
     B,
 }
 
 // A mark for each frame: who holds it, or that it is free. A pool comes from new_pool, take and give alone.
-#[derive(Drop)]
+#[derive(Clone, Copy)]
 pub struct Pool {
     marks: [u8; FRAMES],
 }
 
 // The number of the frame, or of the refusal.
-#[derive(Drop)]
+#[derive(Clone, Copy)]
 pub enum TakeReply {
     Frame(usize),
     Refused(u32),
 }
 
-#[derive(Drop)]
+#[derive(Clone, Copy)]
 pub enum GiveReply {
     Given,
     Refused(u32),
 }
 
-#[derive(Drop)]
+#[derive(Clone, Copy)]
 pub struct TakeCall {
     pub reply: TakeReply,
     pub pool: Pool,
 }
 
-#[derive(Drop)]
+#[derive(Clone, Copy)]
 pub struct GiveCall {
     pub reply: GiveReply,
     pub pool: Pool,

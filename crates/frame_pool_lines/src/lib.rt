@@ -21,7 +21,7 @@ pub mod says; // says.rt: what a line says
 const ANSWER_SIZE: usize = 4 + 11 + 1;
 
 // What the lines so far have left: the pool, the number of the next line, whether one of them said no call.
-#[derive(Drop)]
+#[derive(Clone, Copy)]
 pub struct Progress {
     pub pool: Pool,
     pub number: u64,
@@ -29,7 +29,7 @@ pub struct Progress {
 }
 
 // Where the lines of a text have led, and how many bytes their answers have.
-#[derive(Drop)]
+#[derive(Clone, Copy)]
 pub struct LinesAnswered {
     pub progress: Progress,
     pub length: usize,

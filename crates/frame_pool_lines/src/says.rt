@@ -12,14 +12,14 @@ use script_words::text::{word, word_count};
 pub const LINE_LIMIT: usize = 4095;
 
 // The decoder that a word names.
-#[derive(Drop)]
+#[derive(Clone, Copy)]
 pub enum DecoderWord {
     Named(DecoderId),
     Neither,
 }
 
 // A take, a give, or neither of them.
-#[derive(Drop)]
+#[derive(Clone, Copy)]
 pub enum SaidCall {
     Take(DecoderId),
     Give(DecoderId, usize),

@@ -15,7 +15,7 @@ pub mod columns; // columns.rt: a column, right-justified
 pub mod line; // line.rt: a word, its columns and a newline
 
 // A column: a number of 11 columns, a cue's start of 21, `-` in the last of 11; or no column.
-#[derive(Drop)]
+#[derive(Clone, Copy)]
 pub enum Column {
     Number(u64),
     Start(u64),

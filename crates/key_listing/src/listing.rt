@@ -14,7 +14,7 @@ use reader_cues::{CueReply, first_cursor, next_cue};
 const CUE_CALLS: usize = 130562;
 
 // A line that was put, of length 0 where none is left or the next one does not fit, and what comes after it.
-#[derive(Drop)]
+#[derive(Clone, Copy)]
 pub struct Line {
     pub length: usize,
     pub stage: Stage,

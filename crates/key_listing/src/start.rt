@@ -9,7 +9,7 @@ use reader::HpsReader;
 use reader::answers::OpenReply;
 use reader_open::open;
 
-#[derive(Drop)]
+#[derive(Clone, Copy)]
 pub struct Listing {
     pub stage: Stage,
     pub reader: HpsReader,

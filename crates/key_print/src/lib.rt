@@ -25,7 +25,7 @@ pub fn slot_room() -> [u8; 65537]
 }
 
 // How many bytes of a listing were handed to the system, and whether it took them all.
-#[derive(Drop)]
+#[derive(Clone, Copy)]
 pub struct Printed {
     pub length: usize,
     pub whole: bool,
@@ -89,7 +89,7 @@ pub fn print_stop<W: Write>(to: &mut W, number: u32) -> usize
 }
 
 // A portion of a listing in a buffer, from `at` to `end`, and the stage after it.
-#[derive(Drop)]
+#[derive(Clone, Copy)]
 struct Portion {
     stage: Stage,
     at: usize,

@@ -4,7 +4,7 @@ ghost use Rattle.layout.specs.Answers.{refusal_of, context_says, header_says, cu
 
 use crate::{BlockHeader, Channel, CuePoint, DspFormat, FrameContext};
 
-#[derive(Drop)]
+#[derive(Clone, Copy)]
 pub enum ContextRead {
     Value(FrameContext),
     Refused(u32),
@@ -21,7 +21,7 @@ impl ContextRead {
     }
 }
 
-#[derive(Drop)]
+#[derive(Clone, Copy)]
 pub enum HeaderRead {
     Value(BlockHeader),
     Refused(u32),
@@ -38,7 +38,7 @@ impl HeaderRead {
     }
 }
 
-#[derive(Drop)]
+#[derive(Clone, Copy)]
 pub enum CueRead {
     Value(CuePoint),
     Refused(u32),
@@ -55,7 +55,7 @@ impl CueRead {
     }
 }
 
-#[derive(Drop)]
+#[derive(Clone, Copy)]
 pub enum FormatRead {
     Value(DspFormat),
     Refused(u32),
@@ -73,7 +73,7 @@ impl FormatRead {
 }
 
 // What a read comes to whose value stands beside it, since an enum holds no array.
-#[derive(Drop)]
+#[derive(Clone, Copy)]
 pub enum ReadAnswer {
     Value,
     Refused(u32),
@@ -90,19 +90,19 @@ impl ReadAnswer {
     }
 }
 
-#[derive(Drop)]
+#[derive(Clone, Copy)]
 pub struct CoefficientsRead {
     pub answer: ReadAnswer,
     pub coefficients: [i16; 16],
 }
 
-#[derive(Drop)]
+#[derive(Clone, Copy)]
 pub struct ChannelRead {
     pub answer: ReadAnswer,
     pub channel: Channel,
 }
 
-#[derive(Drop)]
+#[derive(Clone, Copy)]
 pub enum MagicRead {
     Right,
     Refused(u32),

@@ -6,7 +6,7 @@ ghost use Rattle.std.proofs.Common.{to_z};
 ghost use Rattle.layout.specs.Records.{u16_at, u32_at, i16_at, field};
 ghost use Rattle.layout.specs.Answers.{refusal_of, u8_says, u16_says, u32_says, i16_says, i32_says};
 
-#[derive(Drop)]
+#[derive(Clone, Copy)]
 pub enum U8Read {
     Value(u8),
     Refused(u32),
@@ -23,7 +23,7 @@ impl U8Read {
     }
 }
 
-#[derive(Drop)]
+#[derive(Clone, Copy)]
 pub enum U16Read {
     Value(u16),
     Refused(u32),
@@ -40,7 +40,7 @@ impl U16Read {
     }
 }
 
-#[derive(Drop)]
+#[derive(Clone, Copy)]
 pub enum U32Read {
     Value(u32),
     Refused(u32),
@@ -57,7 +57,7 @@ impl U32Read {
     }
 }
 
-#[derive(Drop)]
+#[derive(Clone, Copy)]
 pub enum I16Read {
     Value(i16),
     Refused(u32),
@@ -74,7 +74,7 @@ impl I16Read {
     }
 }
 
-#[derive(Drop)]
+#[derive(Clone, Copy)]
 pub enum I32Read {
     Value(i32),
     Refused(u32),

@@ -30,7 +30,7 @@ At the first line that is none of these it prints LINE and the line's number, an
 const ROOM: usize = LINE_LIMIT + 1;
 
 // Where the lines so far have led, and how many bytes at the start of the room are held for the next portion: less than a line.
-#[derive(Drop)]
+#[derive(Clone, Copy)]
 struct Turn {
     progress: Progress,
     held: usize,

@@ -9,7 +9,7 @@ use lib.Dec.{leb, eqb}
 use lib.IntN.{ℤ, pos, negsuc}
 use mir.Syntax.{w16}
 use mir.Val.{SFits}
-use borrow.Author.Tests.{leb-false, eqb-true, not_false}
+use borrow.Author.Tests.{leb-false, eqb-true, not-false}
 use Rattle.layout.specs.Choice.{◌or◌}
 use Rattle.layout.specs.Lists.{All, none, more, filter, any, sum, same, first_index}
 use Rattle.layout.specs.Types.{Bytes, Slice, ContextFits}
@@ -83,7 +83,7 @@ block_of b h =
     record {
       rate = leb-false 4294967296 _ p.0;
       addresses = leb-false 18446744073709551616 _ q.0;
-      coefficients = record { sixteen = eqb-true _ 16 (not_false _ r.0); each = fits_all _ t.0 };
+      coefficients = record { sixteen = eqb-true _ 16 (not-false _ r.0); each = fits_all _ t.0 };
       gain = leb-false 65536 _ u.0;
       context = context_of_lem _ u.1;
     }

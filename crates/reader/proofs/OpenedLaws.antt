@@ -7,7 +7,7 @@ use mathlib.Core.Logic.{◌⊎◌, inl, inr, ⊎_elim}
 use native.Mathlib.Omega.{arith}
 use lib.ListN.{length, length-append}
 use lib.Dec.{ltb, eqb}
-use borrow.Author.Tests.{eqb-true, not_false}
+use borrow.Author.Tests.{eqb-true, not-false}
 use Rattle.layout.specs.Choice.{pick, ◌or◌}
 use Rattle.layout.specs.Records.{Read, on, field, u32_at, read_channel, read_magic, file_header_size, first_block_offset}
 use Rattle.layout.specs.Refusals.{wrong_count, slot_limit, block_limit}
@@ -88,7 +88,7 @@ opened_parts_lem s r e =
 pub one_or_two : (n : ℕ) → wrong_count n ≡ false → (n ≡ 1) ⊎ (n ≡ 2)
 one_or_two n e =
     by_cases (eqb n 1) (λ t. inl (eqb-true n 1 t))
-    (λ t. inr (eqb-true n 2 (let k : eqb n 1 or eqb n 2 ≡ true = not_false _ e in rw t at k)))
+    (λ t. inr (eqb-true n 2 (let k : eqb n 1 or eqb n 2 ≡ true = not-false _ e in rw t at k)))
 
 -- ---- The premise of the reading calls
 

@@ -1,11 +1,11 @@
 -- The opening record: what its type gives, two channels and 512 offsets, and its offsets one by one.
 use Prim.Native.Nat.{ℕ, zero, suc, ◌+◌, ◌≤◌, ◌<◌, min}
-use mathlib.Core.Path.{◌≡◌, refl, sym, ap, ◌∙◌}
+use mathlib.Core.Path.{◌≡◌, refl, ap, ◌∙◌}
 use mathlib.Core.List.{List, [], ◌∷◌}
 use native.Mathlib.Omega.{arith}
 use native.Mathlib.Numerals.{add-one}
 use native.Mathlib.Nat.{le_of_suc-le-suc, not-suc-le-zero}
-use lib.ListN.{length, take, drop, get_or, length-map, length-take, drop_of_length-le}
+use lib.ListN.{length, take, drop, get_or, length-take, drop_of_length-le}
 use lib.Seq.{drop-cons, get_or-take}
 use mir.Val.{Val}
 use denote.Laws.{Is}
@@ -20,8 +20,8 @@ pub record Shaped (r : HpsReader) : Type 0 where
 
 pub shaped : (r : HpsReader) (vs : List Val) → Is R.the_row r vs → Shaped r
 shaped r vs is = record {
-  channels = sym (length-map r.channels _) ∙ is.1.1.1.1.0.1.0.1;
-  offsets = sym (length-map r.offsets _) ∙ is.1.1.1.1.1.1.0.1.0.1;
+  channels = is.1.1.1.1.0.1.0.1;
+  offsets = is.1.1.1.1.1.1.0.1.0.1;
 }
 
 -- the offsets of the blocks from i on: none past the last, else that of block i first

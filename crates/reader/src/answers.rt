@@ -1,20 +1,20 @@
 // What opening and its walk return.
 use crate::HpsReader;
 
-#[derive(Drop)]
+#[derive(Clone, Copy)]
 pub enum OpenReply {
     Refused(u32),
     Opened,
 }
 
 // Beside the reply the opening record, zeros where it is refused.
-#[derive(Drop)]
+#[derive(Clone, Copy)]
 pub struct OpenCall {
     pub reply: OpenReply,
     pub reader: HpsReader,
 }
 
-#[derive(Drop)]
+#[derive(Clone, Copy)]
 pub enum WalkReply {
     // The last block has no next one.
     End,
@@ -24,7 +24,7 @@ pub enum WalkReply {
 }
 
 // How a walk ends, and how many blocks it has.
-#[derive(Drop)]
+#[derive(Clone, Copy)]
 pub struct Walk {
     pub reply: WalkReply,
     pub count: usize,

@@ -11,7 +11,7 @@ use layout_read::block::read_header;
 use layout_sizes::{address_to_byte_up, align};
 
 // A block's length and context in a channel, and where its data lies.
-#[derive(Drop)]
+#[derive(Clone, Copy)]
 pub struct BlockData {
     pub length: u64,
     pub context: FrameContext,
@@ -19,7 +19,7 @@ pub struct BlockData {
     pub end: usize,
 }
 
-#[derive(Drop)]
+#[derive(Clone, Copy)]
 pub enum DataRead {
     Value(BlockData),
     Refused(u32),

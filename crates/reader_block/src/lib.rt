@@ -12,7 +12,7 @@ use reader::HpsReader;
 
 mod data_places; // data_places.rt: where a block's data lies
 
-#[derive(Drop)]
+#[derive(Clone, Copy)]
 pub enum BlockReply {
     Refused(u32),
     End,
@@ -20,7 +20,7 @@ pub enum BlockReply {
 }
 
 // A block read's answer, zeros where no block is given.
-#[derive(Drop)]
+#[derive(Clone, Copy)]
 pub struct BlockCall {
     pub reply: BlockReply,
     pub rate: u32,

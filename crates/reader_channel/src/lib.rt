@@ -11,7 +11,7 @@ use reader::HpsReader;
 use reader_block::{BlockCall, block_data, read_block};
 use reader_remaining::{RemainingReply, data_remaining};
 
-#[derive(Drop)]
+#[derive(Clone, Copy)]
 pub struct ChannelReader<'a> {
     pub slot: &'a [u8],
     pub position: usize,

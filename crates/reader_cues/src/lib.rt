@@ -68,7 +68,7 @@ fn cue_start(base: u64, index: i32) -> u64
     std::num::wrapping_add_u64(base, sign_extended(index))
 }
 
-#[derive(Drop)]
+#[derive(Clone, Copy)]
 pub enum CueReply {
     Refused(u32),
     End,
@@ -78,7 +78,7 @@ pub enum CueReply {
     Point(u64, u32),
 }
 
-#[derive(Drop)]
+#[derive(Clone, Copy)]
 pub struct CueCall {
     pub reply: CueReply,
     pub cursor: CueIterator,

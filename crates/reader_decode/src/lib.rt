@@ -13,13 +13,13 @@ use reader::HpsReader;
 use reader_block::{BlockReply, block_data, channel_of, read_block};
 
 // The position of the next block, and what passes on: the context after the last sample.
-#[derive(Drop)]
+#[derive(Clone, Copy)]
 pub struct Decoder {
     pub position: usize,
     pub context: FrameContext,
 }
 
-#[derive(Drop)]
+#[derive(Clone, Copy)]
 pub enum DecodeReply {
     Refused(u32),
     End,
@@ -27,7 +27,7 @@ pub enum DecodeReply {
     Samples(usize),
 }
 
-#[derive(Drop)]
+#[derive(Clone, Copy)]
 pub struct DecodeCall {
     pub reply: DecodeReply,
     pub decoder: Decoder,

@@ -9,7 +9,7 @@ use layout::answers::HeaderRead;
 use layout_read::block::read_header;
 use reader::HpsReader;
 
-#[derive(Drop)]
+#[derive(Clone, Copy)]
 pub enum RemainingReply {
     Refused(u32),
     Addresses(u64),

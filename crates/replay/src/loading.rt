@@ -19,7 +19,7 @@ const SLOT: usize = 262144;
 const LENT: usize = BLOCK_HEADER_SIZE + CUE_POINT_SIZE * CUE_LIMIT + MONO_LIMIT;
 
 // What a step leaves: the record, and whether all went as the step says.
-#[derive(Drop)]
+#[derive(Clone, Copy)]
 pub struct Left {
     pub writer: HpsWriter,
     pub good: bool,

@@ -24,7 +24,7 @@ fn said_from(s: &[u8], from: usize) -> usize
 }
 
 // Where the CHAN lines of a push's two sides start; the end where there is none.
-#[derive(Drop)]
+#[derive(Clone, Copy)]
 pub struct Sides {
     pub left: usize,
     pub right: usize,
@@ -61,7 +61,7 @@ pub fn lent_after(line: &[u8], kind: Kind, lent: usize) -> usize
 }
 
 // Where BEGN's line starts, and how long the lent buffer is then.
-#[derive(Drop)]
+#[derive(Clone, Copy)]
 pub struct Start {
     pub at: usize,
     pub lent: usize,

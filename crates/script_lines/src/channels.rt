@@ -10,19 +10,19 @@ use writer::ChannelBlock;
 
 const U16: u64 = 65535;
 
-#[derive(Drop)]
+#[derive(Clone, Copy)]
 pub struct ChannelLine {
     pub good: bool,
     pub block: ChannelBlock,
 }
 
-#[derive(Drop)]
+#[derive(Clone, Copy)]
 struct Coefficients {
     good: bool,
     values: [i16; 16],
 }
 
-#[derive(Drop)]
+#[derive(Clone, Copy)]
 struct Context {
     good: bool,
     context: FrameContext,

@@ -22,7 +22,7 @@ const FINI: u32 = 0x46494e49;
 const LENT: u32 = 0x4c454e54;
 
 // What a line's first word says it is; nothing is a line with no word.
-#[derive(Drop)]
+#[derive(Clone, Copy)]
 pub enum Kind {
     Nothing,
     Begin,

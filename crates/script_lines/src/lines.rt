@@ -12,27 +12,27 @@ pub const U64: u64 = 18446744073709551615;
 
 pub const U32: u64 = 4294967295;
 
-#[derive(Drop)]
+#[derive(Clone, Copy)]
 pub struct BeginLine {
     pub good: bool,
     pub channels: usize,
     pub mode: Looping,
 }
 
-#[derive(Drop)]
+#[derive(Clone, Copy)]
 pub struct CueLine {
     pub good: bool,
     pub cue: Cue,
 }
 
-#[derive(Drop)]
+#[derive(Clone, Copy)]
 pub struct PushLine {
     pub good: bool,
     pub channels: u64,
     pub last: bool,
 }
 
-#[derive(Drop)]
+#[derive(Clone, Copy)]
 pub struct LentLine {
     pub good: bool,
     pub length: u64,

@@ -9,7 +9,7 @@ use crate::lines::{begin_line, cue_line, lent_line, push_line};
 use script_words::text::{line_at, next_line};
 
 // What the lines so far ask of the next: whether BEGN was there, and how many CHAN lines are due.
-#[derive(Drop)]
+#[derive(Clone, Copy)]
 struct Due {
     good: bool,
     begun: bool,

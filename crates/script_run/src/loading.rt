@@ -28,7 +28,7 @@ pub const LOG_SIZE: usize = KEY_LIMIT + FILE_HEADER_SIZE;
 const TOO_LONG: usize = SLOT_LIMIT + 1;
 
 // A loading under way: the record, the writes, how long the lent buffer is, and the next call's number.
-#[derive(Drop)]
+#[derive(Clone, Copy)]
 pub struct Loading {
     pub writer: HpsWriter,
     pub log: WriteLog,
@@ -37,7 +37,7 @@ pub struct Loading {
 }
 
 // What a script leaves: whether begin was refused, and the writes.
-#[derive(Drop)]
+#[derive(Clone, Copy)]
 pub struct Loaded {
     pub refused: bool,
     pub log: WriteLog,

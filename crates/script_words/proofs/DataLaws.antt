@@ -7,7 +7,7 @@ use native.Mathlib.Omega.{arith}
 use lib.ListN.{length, get_or, drop, drop_of_length-le}
 use lib.Seq.{drop-cons}
 use lib.Dec.{leb, eqb}
-use borrow.Author.Tests.{le-ltb, lt-ltb, le-leb, lt-leb, not_true, not_false}
+use borrow.Author.Tests.{le-ltb, lt-ltb, le-leb, lt-leb, not-true, not-false}
 use Rattle.layout.specs.Choice.{pick, ◌and◌}
 use Rattle.script_words.specs.Data.{digit_of, bytes_said, is_digit, two_by_two, is_data}
 
@@ -133,14 +133,14 @@ module _ {s : List ℕ} {n j : ℕ} (p : Pairs s n j) (h : j < n) where
       p.is ∙ rw (drop-cons s (2 * j) 0 (omega arith), e, drop-cons s (2 * j + 1) 0 (omega arith), f)
 
   pub first_bad : {d : Bool} → d ≡ is_digit (get_or s (2 * j) 0) → not d ≡ true → false ≡ two_by_two s
-  first_bad {d} e t = rw (here, ← e, not_true d t)
+  first_bad {d} e t = rw (here, ← e, not-true d t)
 
   module _ {d : Bool} (e : d ≡ is_digit (get_or s (2 * j) 0)) (t : not d ≡ false) where
     pub second_bad : {d₂ : Bool} → d₂ ≡ is_digit (get_or s (2 * j + 1) 0) → not d₂ ≡ true → false ≡ two_by_two s
-    second_bad {d₂} e₂ t₂ = rw (here, ← e, not_false d t, ← e₂, not_true d₂ t₂)
+    second_bad {d₂} e₂ t₂ = rw (here, ← e, not-false d t, ← e₂, not-true d₂ t₂)
 
     pub pairs_more : {d₂ : Bool} → d₂ ≡ is_digit (get_or s (2 * j + 1) 0) → not d₂ ≡ false → Pairs s n (j + 1)
-    pairs_more {d₂} e₂ t₂ = record { few = omega arith; even = p.even; is = rw (here, ← e, not_false d t, ← e₂, not_false d₂ t₂) }
+    pairs_more {d₂} e₂ t₂ = record { few = omega arith; even = p.even; is = rw (here, ← e, not-false d t, ← e₂, not-false d₂ t₂) }
 
 pub pairs_all : {s : List ℕ} {n j : ℕ} → Pairs s n j → n ≤ j → true ≡ two_by_two s
 unfolding two_by_two

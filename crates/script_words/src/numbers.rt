@@ -3,13 +3,13 @@ ghost use Rattle.std.specs.Prelude.{◌≡◌, ◌≤◌};
 ghost use Rattle.script_words.specs.Numbers.{no_number, decimal_of, is_decimal, below0, small_of};
 
 // 0 where the word is no number or over the range.
-#[derive(Drop)]
+#[derive(Clone, Copy)]
 pub struct Number {
     pub good: bool,
     pub value: u64,
 }
 
-#[derive(Drop)]
+#[derive(Clone, Copy)]
 pub struct Small {
     pub good: bool,
     pub value: i16,

@@ -19,7 +19,7 @@ use layout_sizes::align;
 use writer::{Cue, CueKind};
 
 // The cues of the table up to a place: where they end, how many of them are points and ranges, whether a Loop is among them.
-#[derive(Drop)]
+#[derive(Clone, Copy)]
 pub struct Taken {
     pub to: usize,
     pub points: usize,

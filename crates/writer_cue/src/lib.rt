@@ -32,7 +32,7 @@ fn range_length(k: CueKind) -> u64
 }
 
 // How one comes to another in the order of cues.
-#[derive(Drop)]
+#[derive(Clone, Copy)]
 enum Order {
     Before,
     Same,
@@ -72,7 +72,7 @@ fn compare(c: Cue, d: Cue) -> Order
 }
 
 // Where a cue belongs, and whether an equal one is there.
-#[derive(Drop)]
+#[derive(Clone, Copy)]
 struct Found {
     place: usize,
     equal: bool,

@@ -15,7 +15,7 @@ const HEADER: u64 = FILE_HEADER_SIZE as u64;
 // A cue takes at most the filled bytes of four.
 const CUE_MOST: u64 = ALIGNMENT as u64;
 
-#[derive(Drop)]
+#[derive(Clone, Copy)]
 pub enum EstimateReply {
     Refused(u32),
     Length(u64),

@@ -4,7 +4,7 @@ use mathlib.Core.Path.{◌≡◌, refl, ap, sym, ◌∙◌}
 use mathlib.Core.Bool.{Bool, true, false, not}
 use mathlib.Core.List.{[], ◌++◌}
 use native.Mathlib.Omega.{arith}
-use borrow.Author.Tests.{lt-ltb, ltb-false, leb-false, eq-eqb, ne_eqb, eqb-true, not_false}
+use borrow.Author.Tests.{lt-ltb, ltb-false, leb-false, eq-eqb, ne_eqb, eqb-true, not-false}
 use lib.Dec.{ltb, eqb, lit<}
 use Rattle.layout.specs.Choice.{◌and◌}
 use Rattle.layout.specs.Records.{padded_size, adpcm_bytes, adpcm_samples, data_after, block_header_size}
@@ -126,7 +126,7 @@ and_rest true b h e = e
 and_rest false b h e = apart (sym h)
 
 same_if : (ch x y : ℕ) → eqb ch 2 and not (eqb x y) ≡ false → ch ≡ 2 → x ≡ y
-same_if ch x y h e = eqb-true x y (not_false (eqb x y) (and_rest (eqb ch 2) _ (eq-eqb ch 2 e) h))
+same_if ch x y h e = eqb-true x y (not-false (eqb x y) (and_rest (eqb ch 2) _ (eq-eqb ch 2 e) h))
 
 pub passing : (n blocks : ℕ) (f g : ChannelBlock) (ch : ℕ) (l r : ChannelBlock) (lb rb : ℕ)
     → n ≡ first_due (early_due blocks f g ch l r lb rb) → n ≡ 0 → Passing blocks ch l lb rb
@@ -146,7 +146,7 @@ passing n blocks f g ch l r lb rb is z =
       few = leb-false block_limit blocks h₁.0;
       long = ltb-false l.length 2 h₆.0;
       short = short;
-      left = omega (arith, eqb-true lb (adpcm_bytes l.length) (not_false _ bytes.0), half l.length short);
+      left = omega (arith, eqb-true lb (adpcm_bytes l.length) (not-false _ bytes.0), half l.length short);
       right = λ e.
           let same = same_if ch l.length r.length h₅.0 e in
           omega (arith, same_if ch rb (adpcm_bytes r.length) bytes.1 e, ap adpcm_bytes same, half l.length short);

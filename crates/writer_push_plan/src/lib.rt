@@ -20,7 +20,7 @@ use writer_push_refusal::{early_due, no_addresses, room_due, state_due};
 
 // The number due, 0 where none is; then the block's header, where its data starts, its size, and the stream after it. The size is 0 where there is no
 // block to write: of a refused push and of an empty one.
-#[derive(Drop)]
+#[derive(Clone, Copy)]
 pub struct Plan {
     pub due: u32,
     pub header: BlockHeader,

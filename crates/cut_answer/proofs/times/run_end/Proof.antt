@@ -1,4 +1,4 @@
-use borrow.Author.Tests.{not_true, not_false}
+use borrow.Author.Tests.{not-true, not-false}
 use borrow.Author.Rules.{rules}
 use Prim.Native.Nat.{◌-◌}
 use mathlib.Core.Path.{refl}
@@ -24,11 +24,11 @@ returns : tie.Need-returns invariant-loop decreases-loop
 returns c = to_log c.before.before.before.before.before.before.before.before.before.before.before.before.before.args.j
     c.before.before.before.before.before.before.before.before.before.before.before.before.before.args.logged.now
     (run_other c.before.before.before.before.before.before.before.before.loop.invariant c.before.before.before.before.before.before.before.loop-test.true (search rules)
-    c.before.before.before.before.before.next-moment.ensures (not_true _ c.if1.true) c.before.same-listing.ensures)
+    c.before.before.before.before.before.next-moment.ensures (not-true _ c.if1.true) c.before.same-listing.ensures)
 
 loop-again : tie.Need-loop-preserved invariant-loop decreases-loop
 loop-again c = going_more c.before.before.before.before.before.before.before.before.loop.invariant c.before.before.before.before.before.before.before.loop-test.true
-    (search rules) c.before.before.before.before.before.next-moment.ensures (not_false _ c.if1.false) c.before.same-listing.ensures
+    (search rules) c.before.before.before.before.before.next-moment.ensures (not-false _ c.if1.false) c.before.same-listing.ensures
 
 same-length-2 : tie.Need-same-length-2 invariant-loop decreases-loop
 same-length-2 c = c.before.loop.invariant.long

@@ -1,4 +1,4 @@
-use borrow.Author.Tests.{not_true, not_false}
+use borrow.Author.Tests.{not-true, not-false}
 use mathlib.Core.Path.{◌∙◌, sym}
 use Rattle.script_lines.proofs.WholeLaws.{line-nothing, line_unsaid, line-channel, line_call}
 use borrow.Author.Rules.{rules}
@@ -9,15 +9,15 @@ returns : tie.Need-returns
 returns c = line-nothing _ _ c.before.before.kind-of.ensures c.enum_told.given.1
 
 returns-2 : tie.Need-returns-2
-returns-2 c = line_unsaid _ _ c.before.before.before.kind-of.ensures c.before.before.match.keys2 (sym c.before.Says-All.ensures ∙ not_true _ c.if1.true)
+returns-2 c = line_unsaid _ _ c.before.before.before.kind-of.ensures c.before.before.match.keys2 (sym c.before.Says-All.ensures ∙ not-true _ c.if1.true)
 
 returns-3 : tie.Need-returns-3
 returns-3 c = c.after-channel.ensures ∙ line-channel _ _ c.before.before.before.before.before.kind-of.ensures c.before.before.before.before.match.keys2
-    (sym c.before.before.before.Says-All.ensures ∙ not_false _ c.before.before.if1.false) c.before.if2.true
+    (sym c.before.before.before.Says-All.ensures ∙ not-false _ c.before.before.if1.false) c.before.if2.true
 
 returns-4 : tie.Need-returns-4
 returns-4 c = c.after_call.ensures ∙ line_call _ _ c.before.before.before.before.before.kind-of.ensures c.before.before.before.before.match.keys2
-    (sym c.before.before.before.Says-All.ensures ∙ not_false _ c.before.before.if1.false) c.before.if2.false
+    (sym c.before.before.before.Says-All.ensures ∙ not-false _ c.before.before.if1.false) c.before.if2.false
 
 pub after-line-spec : {M : Type 1} → statement M
 after-line-spec =

@@ -1,4 +1,4 @@
-use borrow.Author.Tests.{not_true, not_false}
+use borrow.Author.Tests.{not-true, not-false}
 use Prim.Native.Nat.{◌-◌}
 use native.Mathlib.Omega.{arith}
 use lib.ListN.{length}
@@ -18,23 +18,23 @@ loop-holds c = walk_none _
 
 returns : tie.Need-returns invariant-loop decreases-loop
 returns c = walk_wrong c.before.before.before.before.before.loop.invariant c.before.before.before.before.loop-test.true c.before.before.before.line_at_lem.ensures
-    c.before.before.after_Line.ensures (not_true _ c.if1.true)
+    c.before.before.after_Line.ensures (not-true _ c.if1.true)
 
 loop-less : tie.Need-loop-smaller invariant-loop decreases-loop
 loop-less c = omega (arith, c.next-line.ensures.1.1 c.before.before.before.before.before.loop-test.true)
 
 loop-again : tie.Need-loop-preserved invariant-loop decreases-loop
 loop-again c = walk_more c.before.before.before.before.before.before.loop.invariant c.before.before.before.before.before.loop-test.true
-    c.before.before.before.before.line_at_lem.ensures c.before.before.before.after_Line.ensures (not_false _ c.before.if1.false) c.next-line.ensures.0 c.next-line.ensures.1
+    c.before.before.before.before.line_at_lem.ensures c.before.before.before.after_Line.ensures (not-false _ c.before.if1.false) c.next-line.ensures.0 c.next-line.ensures.1
 
 returns-2 : tie.Need-returns-2 invariant-loop decreases-loop
-returns-2 c = walk_unbegun c.before.before.before.loop.invariant c.before.before.loop-test.false (not_true _ c.if2.true)
+returns-2 c = walk_unbegun c.before.before.before.loop.invariant c.before.before.loop-test.false (not-true _ c.if2.true)
 
 returns-3 : tie.Need-returns-3 invariant-loop decreases-loop
-returns-3 c = walk_due c.before.before.before.before.before.loop.invariant c.before.before.before.before.loop-test.false (not_false _ c.before.before.if2.false) c.if3.true
+returns-3 c = walk_due c.before.before.before.before.before.loop.invariant c.before.before.before.before.loop-test.false (not-false _ c.before.before.if2.false) c.if3.true
 
 returns-4 : tie.Need-returns-4 invariant-loop decreases-loop
-returns-4 c = walk_all c.before.before.before.before.before.loop.invariant c.before.before.before.before.loop-test.false (not_false _ c.before.before.if2.false) c.if3.false
+returns-4 c = walk_all c.before.before.before.before.before.loop.invariant c.before.before.before.before.loop-test.false (not-false _ c.before.before.if2.false) c.if3.false
 
 pub wrong-line-spec : {M : Type 1} → statement M
 wrong-line-spec =

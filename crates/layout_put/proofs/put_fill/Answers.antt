@@ -1,0 +1,18 @@
+use mathlib.Core.Path.{sym}
+use lib.ListN.{length-replicate, get_or-replicate}
+use native.Mathlib.Omega.{arith}
+use Rattle.layout.proofs.FieldLaws.{passed, failed}
+use Rattle.layout.proofs.PutLaws.{putting_none, putting_more, putting_all, put_at_out}
+use Rattle.layout_put.proofs.put_fill.Goals as goal
+
+pub loop-j-init : goal.loop-j-init
+loop-j-init c = putting_none (length-replicate _ _) (passed c.inside.ensures c.if-inside.true)
+
+pub loop-j-preserved : goal.loop-j-preserved
+loop-j-preserved c = rw (get_or-replicate _ _ _ _ c.loop-j-test.true) at (putting_more c.loop-j.invariant c.loop-j-test.true)
+
+pub returns-after-loop-j : goal.returns-after-loop-j
+returns-after-loop-j c = putting_all c.loop-j.invariant (omega arith)
+
+pub returns-else-inside : goal.returns-else-inside
+returns-else-inside c = sym (put_at_out _ _ _ (rw length-replicate (failed c.inside.ensures c.if-inside.false)))

@@ -1,4 +1,4 @@
-/* The walk-in music slots' calls for C: link with libhps.a (rt staticlib hps).
+/* The walk-in music slots' calls for C: link with libhps.a (link/library).
  *
  * A call gives 0, a refusal's number of document 01, or one of the HPS_ numbers below. What it gives beside that is set with 0 alone, but for
  * the position of hps_block (also with 1) and what hps_cues gives (also with HPS_END); with every other number all that was lent is as it was.

@@ -1,4 +1,4 @@
-// Links libhps.a, from the folder that HPS_LIB names or from where `rt staticlib hps` leaves it.
+// Links libhps.a, from the folder that HPS_LIB names or from where `link/library` leaves it.
 use std::env::var;
 
 fn main() {

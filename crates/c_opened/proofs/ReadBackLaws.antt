@@ -10,7 +10,7 @@ use lib.ListN.{length, take, drop, get_or, replicate, length-append, length-repl
 use lib.Seq.{get_or-take, get_or-append-add, take-append_seam, length-take-le, ext_get_or}
 use lib.Dec.{ltb, leb, eqb}
 use borrow.Author.Tests.{le-leb, leb-true, leb-false, ltb-true, ltb-false, ne_eqb}
-use Rattle.layout.specs.Choice.{pick, ◌and◌}
+use Rattle.layout.specs.Choice.{pick}
 use Rattle.layout.specs.Lists.{All}
 use Rattle.layout.specs.Puts.{put_at}
 use Rattle.layout.specs.Types.{Bytes}

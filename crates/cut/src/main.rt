@@ -3,17 +3,21 @@
 
 use cut_answer::files::{read_file, script_room};
 use cut_answer::{Ask, answer};
-use io::{buffer, read_full, write_all};
+use host_io::host::{arg, arg_count, fail, open_read};
+use host_io::{buffer, read_full, write_all};
 use key_print::slot_room;
-use libc::{STDERR_FILENO, STDOUT_FILENO};
 use script_words::numbers::{Number, unsigned};
+use std::env::Env;
+use std::io::Write;
+use std::rt::Files;
 
-fn tell(text: &[u8]) {
-    write_all(STDERR_FILENO, text);
+fn tell<E: Write>(err: &mut E, text: &[u8]) {
+    write_all(err, text);
 }
 
-fn help() {
+fn help<E: Write>(err: &mut E) {
     tell(
+        err,
         b"cut EARLIER SCRIPT           each call's answer and writes, then the listing of every moment
 cut EARLIER SCRIPT MOMENT    the listing of one moment
 
@@ -27,58 +31,67 @@ docs/CUT.md has the script's words.
 }
 
 // The argument MOMENT.
-fn moment() -> Number {
+fn moment<R: Env>(rt: &R) -> Number {
     let mut word = buffer();
-    let n = os::arg(3, &mut word);
+    let n = arg(rt, 3, &mut word);
     unsigned(&word[..n], 18446744073709551615)
 }
 
 // The answer on EARLIER. A slot that is too long is seen to be longer by its last byte.
-fn answer_script(text: &[u8], ask: Ask) {
+fn answer_script<R: Env + Files, W: Write, E: Write>(
+    rt: &R,
+    to: &mut W,
+    err: &mut E,
+    text: &[u8],
+    ask: Ask,
+) {
     let mut name = buffer();
-    let k = os::arg(1, &mut name);
+    let k = arg(rt, 1, &mut name);
     let mut slot = slot_room();
-    let earlier = read_file(&name[..k], &mut slot);
+    let earlier = read_file(rt, err, &name[..k], &mut slot);
     let n = earlier.length;
     if earlier.good {
-        answer(STDOUT_FILENO, &slot[..n], text, ask);
+        answer(to, err, &slot[..n], text, ask);
     }
 }
 
-// SCRIPT, opened for reading, or -1.
-fn open_script() -> i32 {
+// SCRIPT, opened for reading, or none.
+fn open_script<R: Env + Files, E: Write>(rt: &R, err: &mut E) -> Option<R::File> {
     let mut name = buffer();
-    let k = os::arg(2, &mut name);
-    let fd = os::open_read(&name[..k]);
-    if fd < 0 {
-        os::fail(&name[..k]);
+    let k = arg(rt, 2, &mut name);
+    match open_read(rt, &name[..k]) {
+        Err(error) => {
+            fail(err, &name[..k], error);
+            None
+        }
+        Ok(file) => Some(file),
     }
-    fd
 }
 
 // Reads SCRIPT and answers.
-fn run(ask: Ask) {
-    let fd = open_script();
-    if fd < 0 {
+fn run<R: Env + Files, W: Write, E: Write>(rt: &R, to: &mut W, err: &mut E, ask: Ask) {
+    let Some(mut file) = open_script(rt, err) else {
         return;
-    }
+    };
     let mut text = script_room();
-    let n = read_full(fd, &mut text);
-    answer_script(&text[..n], ask);
+    let n = read_full(&mut file, &mut text);
+    answer_script(rt, to, err, &text[..n], ask);
 }
 
-fn main() {
-    let count = os::arg_count();
+fn main(rt: HostRuntime) {
+    let mut out = rt.stdout();
+    let mut err = rt.stderr();
+    let count = arg_count(&rt);
     if count == 3 {
-        run(Ask::All);
+        run(&rt, &mut out, &mut err, Ask::All);
         return;
     }
     if count == 4 {
-        let m = moment();
+        let m = moment(&rt);
         if m.good {
-            run(Ask::Moment(m.value));
+            run(&rt, &mut out, &mut err, Ask::Moment(m.value));
             return;
         }
     }
-    help();
+    help(&mut err);
 }

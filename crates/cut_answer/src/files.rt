@@ -1,8 +1,11 @@
 // Files by name.
 ghost use Rattle.std.specs.Prelude.{◌≡◌, replicate};
-ghost use Rattle.io.specs.Counts.{IsPrefixLen};
+ghost use Rattle.std.specs.Counts.{IsPrefixLen};
 
-use io::read_full;
+use host_io::host::{fail, open_read};
+use host_io::read_full;
+use std::io::Write;
+use std::rt::Files;
 
 // A byte more than the longest script has, by which a longer one is seen.
 pub fn script_room() -> [u8; 1048577]
@@ -18,19 +21,21 @@ pub struct Got {
     pub length: usize,
 }
 
-// As much of a file as a lent buffer holds. What goes wrong is said on standard error.
-pub fn read_file(path: &[u8], into: &mut [u8]) -> Got
+// As much of a file as a lent buffer holds. What goes wrong is said on standard error, `err`.
+pub fn read_file<R: Files, E: Write>(files: &R, err: &mut E, path: &[u8], into: &mut [u8]) -> Got
     ensures { IsPrefixLen result.length into.new }
 {
-    let fd = os::open_read(path);
-    if fd < 0 {
-        os::fail(path);
-        return Got {
-            good: false,
-            length: 0,
-        };
+    match open_read(files, path) {
+        Ok(mut file) => {
+            let length = read_full(&mut file, into);
+            Got { good: true, length }
+        }
+        Err(error) => {
+            fail(err, path, error);
+            Got {
+                good: false,
+                length: 0,
+            }
+        }
     }
-    let length = read_full(fd, into);
-    libc::close(fd);
-    Got { good: true, length }
 }

@@ -3,14 +3,14 @@
 
 use cut_report::{print_line, script_line};
 use cut_write_log::WriteLog;
-use io::{print_decimal, write_all};
+use host_io::{print_decimal, write_all};
 use key_print::{print_listing, slot_room};
 use layout_put::put_bytes;
-use libc::STDERR_FILENO;
 use power_cut_moments::slot_at;
 use script_lines::whole::wrong_line;
 use script_run::loading::{LOG_SIZE, SCRIPT_LIMIT, load};
 use script_run::report::Output;
+use std::io::Write;
 
 pub mod files; // files.rt: files by name
 pub mod times; // times.rt: the runs of moments with the same listing
@@ -50,21 +50,22 @@ fn log_room() -> [u8; LOG_SIZE]
 }
 
 // The listing of the slot at a moment.
-fn print_slot(fd: i32, earlier: &[u8], text: &[u8], moment: usize, slot: &[u8])
+fn print_slot<W: Write>(to: &mut W, earlier: &[u8], text: &[u8], moment: usize, slot: &[u8])
     requires { slot.now ≡ slot_of earlier.now text.now moment }
 {
-    print_listing(fd, slot);
+    print_listing(to, slot);
 }
 
-fn report_last(last: usize) {
-    write_all(STDERR_FILENO, b"cut: the last moment is ");
-    print_decimal(STDERR_FILENO, last as u64);
-    write_all(STDERR_FILENO, b"\n");
+fn report_last<E: Write>(err: &mut E, last: usize) {
+    write_all(err, b"cut: the last moment is ");
+    print_decimal(err, last as u64);
+    write_all(err, b"\n");
 }
 
 // The listing of one moment; the slot is a copy of the earlier one.
-fn show_moment(
-    fd: i32,
+fn show_moment<W: Write, E: Write>(
+    to: &mut W,
+    err: &mut E,
     earlier: &[u8],
     text: &[u8],
     slot: &mut [u8],
@@ -78,13 +79,13 @@ fn show_moment(
 {
     let last = j.total;
     if moment > last as u64 {
-        report_last(last);
+        report_last(err, last);
         return Answered::PastTheLast(last);
     }
     let places = j.places;
     let m = moment as usize;
     slot_at(slot, places, j.count, logged, m);
-    print_slot(fd, earlier, text, m, slot);
+    print_slot(to, earlier, text, m, slot);
     Answered::Listed
 }
 
@@ -96,8 +97,9 @@ fn is_all(ask: Ask) -> bool {
 }
 
 // What is asked, of a slot that is a copy of the earlier one.
-fn show(
-    fd: i32,
+fn show<W: Write, E: Write>(
+    to: &mut W,
+    err: &mut E,
     earlier: &[u8],
     text: &[u8],
     slot: &mut [u8],
@@ -111,45 +113,55 @@ fn show(
 {
     match ask {
         Ask::All => {
-            show_times(fd, earlier, text, slot, j, logged);
+            show_times(to, earlier, text, slot, j, logged);
             Answered::Listed
         }
-        Ask::Moment(moment) => show_moment(fd, earlier, text, slot, j, logged, moment),
+        Ask::Moment(moment) => show_moment(to, err, earlier, text, slot, j, logged, moment),
     }
 }
 
 // The answer to a well-formed script. A refused begin's line is all of it.
-fn answer_script(fd: i32, earlier: &[u8], text: &[u8], ask: Ask) -> Answered
+fn answer_script<W: Write, E: Write>(
+    to: &mut W,
+    err: &mut E,
+    earlier: &[u8],
+    text: &[u8],
+    ask: Ask,
+) -> Answered
     requires { length text.now ≤ script_limit }
     ensures { result ≡ formed_answer (length earlier.now) text.now ask }
 {
     let n = earlier.len();
     let mut logged = log_room();
     let verbose = is_all(ask);
-    let loaded = load(Output { fd, verbose }, text, n, &mut logged);
+    let loaded = load(Output { to, verbose }, text, n, &mut logged);
     if loaded.refused {
         return Answered::BeginRefused;
     }
     let mut slot = slot_room();
     put_bytes(&mut slot, 0, earlier);
     let j = loaded.log;
-    show(fd, earlier, text, &mut slot[..n], j, &logged, ask)
+    show(to, err, earlier, text, &mut slot[..n], j, &logged, ask)
 }
 
-pub fn answer(fd: i32, earlier: &[u8], text: &[u8], ask: Ask) -> Answered
+// What is asked goes to `to`, what is said beside it to `err`.
+pub fn answer<W: Write, E: Write>(
+    to: &mut W,
+    err: &mut E,
+    earlier: &[u8],
+    text: &[u8],
+    ask: Ask,
+) -> Answered
     ensures { result ≡ answered earlier.now text.now ask }
 {
     if text.len() > SCRIPT_LIMIT {
-        write_all(
-            STDERR_FILENO,
-            b"cut: SCRIPT is longer than 1,048,576 bytes\n",
-        );
+        write_all(err, b"cut: SCRIPT is longer than 1,048,576 bytes\n");
         return Answered::LongScript;
     }
     let wrong = wrong_line(text);
     if wrong != 0 {
-        print_line(fd, script_line(wrong));
+        print_line(to, script_line(wrong));
         return Answered::WrongLine(wrong);
     }
-    answer_script(fd, earlier, text, ask)
+    answer_script(to, err, earlier, text, ask)
 }

@@ -12,13 +12,21 @@ use cut_write_log::WriteLog;
 use key_print::{print_listing, same_listing, slot_room};
 use layout_put::put_bytes;
 use power_cut_moments::next_moment;
+use std::io::Write;
 
 // TIME with a run's first and last moment, and the listing.
-fn print_run(fd: i32, earlier: &[u8], text: &[u8], from: usize, last: usize, slot: &[u8])
+fn print_run<W: Write>(
+    to: &mut W,
+    earlier: &[u8],
+    text: &[u8],
+    from: usize,
+    last: usize,
+    slot: &[u8],
+)
     requires { MomentRun earlier.now text.now from last (listing slot.now) }
 {
-    print_line(fd, time_line(from, last));
-    print_listing(fd, slot);
+    print_line(to, time_line(from, last));
+    print_listing(to, slot);
 }
 
 // Where a run ends that starts at a moment; the other buffer has the slot at its start. The slot goes on to the moment after it.
@@ -42,8 +50,8 @@ fn run_end(slot: &mut [u8], first: &[u8], j: WriteLog, logged: &[u8], from: usiz
 }
 
 // Prints the runs; both buffers are copies of the earlier slot.
-fn show_runs(
-    fd: i32,
+fn show_runs<W: Write>(
+    to: &mut W,
     earlier: &[u8],
     text: &[u8],
     slot: &mut [u8],
@@ -58,15 +66,15 @@ fn show_runs(
     let mut from: usize = 0;
     while from <= total {
         let next = run_end(slot, first, j, logged, from);
-        print_run(fd, earlier, text, from, next - 1, first);
+        print_run(to, earlier, text, from, next - 1, first);
         put_bytes(first, 0, slot);
         from = next;
     }
 }
 
 // The listings of every moment; the slot is a copy of the earlier one.
-pub(crate) fn show_times(
-    fd: i32,
+pub(crate) fn show_times<W: Write>(
+    to: &mut W,
     earlier: &[u8],
     text: &[u8],
     slot: &mut [u8],
@@ -79,5 +87,5 @@ pub(crate) fn show_times(
     let n = earlier.len();
     let mut first = slot_room();
     put_bytes(&mut first, 0, earlier);
-    show_runs(fd, earlier, text, slot, &mut first[..n], j, logged);
+    show_runs(to, earlier, text, slot, &mut first[..n], j, logged);
 }

@@ -6,9 +6,10 @@ ghost use Rattle.key_lines.specs.Lines.{line};
 ghost use Rattle.key_lines.specs.declared.Column.TheVariants.{Nothing};
 ghost use Rattle.cut_report.specs.Report.{reply_line, write_line, time_line, script_line, line_in};
 
-use io::write_all;
+use host_io::write_all;
 use key_lines::Column;
 use key_lines::line::put_line;
+use std::io::Write;
 use writer::{Place, Reply};
 
 // The room of a line: its word, three columns of the widest kind, the newline.
@@ -69,14 +70,14 @@ pub fn script_line(number: usize) -> ReportLine
 }
 
 // What is handed to the system is the line, which is there for the premise alone.
-fn hand_over(fd: i32, l: ReportLine, bytes: &[u8])
+fn hand_over<W: Write>(to: &mut W, l: ReportLine, bytes: &[u8])
     requires { bytes.now ≡ line_in l }
 {
-    write_all(fd, bytes);
+    write_all(to, bytes);
 }
 
 // Prints a line; how many bytes the system was handed.
-pub fn print_line(fd: i32, l: ReportLine) -> usize
+pub fn print_line<W: Write>(to: &mut W, l: ReportLine) -> usize
     ensures { result ≡ length (line_in l) }
 {
     let bytes = l.bytes;
@@ -84,6 +85,6 @@ pub fn print_line(fd: i32, l: ReportLine) -> usize
     if n > LINE_ROOM {
         return 0;
     }
-    hand_over(fd, l, &bytes[..n]);
+    hand_over(to, l, &bytes[..n]);
     n
 }

@@ -3,20 +3,24 @@
 
 ghost use Rattle.std.specs.Prelude.{◌≡◌, ◌+◌, length};
 ghost use Rattle.layout.specs.Refusals.{slot_limit};
-ghost use Rattle.io.specs.Counts.{IsPrefixLen};
+ghost use Rattle.std.specs.Counts.{IsPrefixLen};
 
 use decode_print::print_channel;
-use io::{buffer, read_full, write_all};
+use host_io::host::{arg, arg_count, fail, open_read};
+use host_io::remembering::Remembering;
+use host_io::{buffer, read_full, write_all};
 use key_print::{print_stop, slot_room};
 use layout::limits::{KEY_LIMIT, SLOT_LIMIT};
 use layout_put::put_bytes;
-use libc::{STDERR_FILENO, STDOUT_FILENO};
 use reader_decode::DecodeReply;
 use script_words::numbers::{Number, unsigned};
+use std::env::Env;
+use std::io::{Read, Write};
+use std::rt::Files;
 
-fn help() {
+fn help<E: Write>(err: &mut E) {
     write_all(
-        STDERR_FILENO,
+        err,
         b"decode SLOT CHANNEL    the channel's samples, 16 bits little-endian, on standard output
 
 SLOT is a file of at most 16,777,216 bytes, CHANNEL 0 or 1. A refusal is a line STOP and its number
@@ -33,16 +37,16 @@ fn long_room() -> [u8; SLOT_LIMIT + 1]
 }
 
 // Prints the channel, and what ended it where that was not its end.
-fn print(slot: &[u8], channel: usize) {
-    let heard = print_channel(STDOUT_FILENO, slot, channel);
+fn print<W: Write, E: Write>(to: &mut Remembering<W>, err: &mut E, slot: &[u8], channel: usize) {
+    let heard = print_channel(to, slot, channel);
     if !heard.whole {
-        os::fail(b"standard output");
+        to.tell(err, b"standard output");
         return;
     }
     let reply = heard.reply;
     match reply {
         DecodeReply::Refused(number) => {
-            print_stop(STDERR_FILENO, number);
+            print_stop(err, number);
         }
         DecodeReply::End => {}
         DecodeReply::Samples(_) => {}
@@ -50,7 +54,7 @@ fn print(slot: &[u8], channel: usize) {
 }
 
 // Reads on behind the first bytes of a slot; how many bytes there are then.
-fn read_on(fd: i32, first: &[u8], slot: &mut [u8]) -> usize
+fn read_on<F: Read>(file: &mut F, first: &[u8], slot: &mut [u8]) -> usize
     ensures { IsPrefixLen result slot.new }
 {
     let k = first.len();
@@ -58,70 +62,94 @@ fn read_on(fd: i32, first: &[u8], slot: &mut [u8]) -> usize
         return 0;
     }
     put_bytes(slot, 0, first);
-    let n = read_full(fd, &mut slot[k..]);
+    let n = read_full(file, &mut slot[k..]);
     k + n
 }
 
 // A slot that is longer than its first bytes.
-fn print_long(fd: i32, first: &[u8], channel: usize) {
+fn print_long<F: Read, W: Write, E: Write>(
+    file: &mut F,
+    to: &mut Remembering<W>,
+    err: &mut E,
+    first: &[u8],
+    channel: usize,
+) {
     let mut slot = long_room();
-    let n = read_on(fd, first, &mut slot);
-    print(&slot[..n], channel);
+    let n = read_on(file, first, &mut slot);
+    print(to, err, &slot[..n], channel);
 }
 
 // The slot in the room of the marking key; a longer one, of which these are the first bytes, in that of the longest. It calls itself for these, so that only
 // they take the stack of the long room: a function that does not call itself the compiler may join to its caller.
-fn print_slot(fd: i32, first: &[u8], channel: usize, long: bool) {
+fn print_slot<F: Read, W: Write, E: Write>(
+    file: &mut F,
+    to: &mut Remembering<W>,
+    err: &mut E,
+    first: &[u8],
+    channel: usize,
+    long: bool,
+) {
     if long {
-        print_long(fd, first, channel);
+        print_long(file, to, err, first, channel);
         return;
     }
     let mut slot = slot_room();
-    let n = read_full(fd, &mut slot);
+    let n = read_full(file, &mut slot);
     if n > KEY_LIMIT {
-        print_slot(fd, &slot[..n], channel, true);
+        print_slot(file, to, err, &slot[..n], channel, true);
         return;
     }
-    print(&slot[..n], channel);
+    print(to, err, &slot[..n], channel);
 }
 
-// SLOT, opened for reading, or -1. A read of no bytes tells a folder.
-fn open_slot() -> i32 {
+// SLOT, opened for reading, or none. A read of no bytes tells a folder.
+fn open_slot<R: Env + Files, E: Write>(rt: &R, err: &mut E) -> Option<R::File> {
     let mut name = buffer();
-    let k = os::arg(1, &mut name);
-    let fd = os::open_read(&name[..k]);
+    let k = arg(rt, 1, &mut name);
     let mut none = [0u8; 1];
-    if fd < 0 {
-        os::fail(&name[..k]);
-        return -1;
+    match open_read(rt, &name[..k]) {
+        Err(error) => {
+            fail(err, &name[..k], error);
+            None
+        }
+        Ok(mut file) => match file.read(&mut none[..0]) {
+            Err(error) => {
+                fail(err, &name[..k], error);
+                None
+            }
+            Ok(_) => Some(file),
+        },
     }
-    if libc::read(fd, &mut none[..0]) < 0 {
-        os::fail(&name[..k]);
-        return -1;
-    }
-    fd
 }
 
 // The argument CHANNEL.
-fn channel() -> Number {
+fn channel<R: Env>(rt: &R) -> Number {
     let mut word = buffer();
-    let n = os::arg(2, &mut word);
+    let n = arg(rt, 2, &mut word);
     unsigned(&word[..n], 18446744073709551615)
 }
 
-fn main() {
-    let chosen = channel();
+fn main(rt: HostRuntime) {
+    let mut err = rt.stderr();
+    let chosen = channel(&rt);
     if !chosen.good {
-        help();
+        help(&mut err);
         return;
     }
-    if os::arg_count() != 3 {
-        help();
+    if arg_count(&rt) != 3 {
+        help(&mut err);
         return;
     }
-    let fd = open_slot();
-    if fd < 0 {
+    let Some(mut file) = open_slot(&rt, &mut err) else {
         return;
-    }
-    print_slot(fd, b"", chosen.value as usize, false);
+    };
+    let mut out = Remembering::new(rt.stdout());
+    print_slot(
+        &mut file,
+        &mut out,
+        &mut err,
+        b"",
+        chosen.value as usize,
+        false,
+    );
 }

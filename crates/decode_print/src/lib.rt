@@ -6,13 +6,14 @@ ghost use Rattle.pcm_bytes.specs.Pcm.{pcm_bytes};
 ghost use Rattle.reader.specs.OpeningAndReading.{Readable};
 ghost use Rattle.decode_print.specs.Hearing.{most_samples, pushed_samples, channel_samples, channel_end, RoomForEach, HeardOf, Before, HeardTo, is_short};
 
-use io::{large_buffer, write_all};
+use host_io::{large_buffer, write_all};
 use layout::limits::{LENGTH_LIMIT, SLOT_LIMIT};
 use pcm_bytes::put_pcm;
 use reader::HpsReader;
 use reader::answers::OpenReply;
 use reader_decode::{DecodeReply, Decoder, decode, new_decoder};
 use reader_open::open;
+use std::io::Write;
 
 // How many samples of a channel were handed to the system, whether it took them all, and the reply that ended them.
 #[derive(Clone, Copy)]
@@ -32,15 +33,21 @@ struct Hearing {
 }
 
 // What is handed to the system are the bytes of n samples from `at` on: samples and place are there for the premise alone. How many it took: all or none.
-fn write_pcm(fd: i32, samples: &[i16], at: usize, n: usize, bytes: &[u8]) -> usize
+fn write_pcm<W: Write>(to: &mut W, samples: &[i16], at: usize, n: usize, bytes: &[u8]) -> usize
     requires { bytes.now ≡ pcm_bytes (take n (drop at samples.now)) }
     ensures { result ≤ n }
 {
-    if write_all(fd, bytes) { n } else { 0 }
+    if write_all(to, bytes) { n } else { 0 }
 }
 
 // Samples of a channel, from one of them on; how many the system took.
-fn print_samples(fd: i32, s: &[u8], channel: usize, from: usize, samples: &[i16]) -> usize
+fn print_samples<W: Write>(
+    to: &mut W,
+    s: &[u8],
+    channel: usize,
+    from: usize,
+    samples: &[i16],
+) -> usize
     requires { samples.now ≡ take (length samples.now) (drop from (channel_samples s.now channel)) }
     ensures { result ≤ length samples.now }
 {
@@ -48,7 +55,7 @@ fn print_samples(fd: i32, s: &[u8], channel: usize, from: usize, samples: &[i16]
     let mut at: usize = 0;
     while at < samples.len() {
         let n = put_pcm(&samples[at..], &mut out);
-        let taken = write_pcm(fd, samples, at, n, &out[..2 * n]);
+        let taken = write_pcm(to, samples, at, n, &out[..2 * n]);
         if taken == 0 {
             return at;
         }
@@ -58,8 +65,8 @@ fn print_samples(fd: i32, s: &[u8], channel: usize, from: usize, samples: &[i16]
 }
 
 // The blocks from a decoder on, up to a call that gives no samples.
-fn print_blocks(
-    fd: i32,
+fn print_blocks<W: Write>(
+    to: &mut W,
     s: &[u8],
     r: HpsReader,
     channel: usize,
@@ -84,7 +91,7 @@ fn print_blocks(
             };
         };
         let next = call.decoder;
-        let taken = print_samples(fd, s, channel, length, &samples[..n]);
+        let taken = print_samples(to, s, channel, length, &samples[..n]);
         length += taken;
         if taken < n {
             return Hearing {
@@ -134,19 +141,26 @@ fn long_room() -> [i16; 2 * SLOT_LIMIT / 16 * 14]
 }
 
 // In the room for the longest block.
-fn print_long(fd: i32, s: &[u8], r: HpsReader, channel: usize, first: Decoder, from: usize) -> Heard
+fn print_long<W: Write>(
+    to: &mut W,
+    s: &[u8],
+    r: HpsReader,
+    channel: usize,
+    first: Decoder,
+    from: usize,
+) -> Heard
     requires { Readable r × Before s.now r channel first from }
     ensures { HeardOf (channel_samples s.now channel) (channel_end s.now channel) result }
 {
     let mut samples = long_room();
-    let h = print_blocks(fd, s, r, channel, first, from, &mut samples);
+    let h = print_blocks(to, s, r, channel, first, from, &mut samples);
     ended(h)
 }
 
 // In the room for a block that was pushed; from a longer block on, in that for the longest. It calls itself for these, so that only they take the stack of the
 // long room: a function that does not call itself the compiler may join to its caller.
-fn print_rest(
-    fd: i32,
+fn print_rest<W: Write>(
+    to: &mut W,
     s: &[u8],
     r: HpsReader,
     channel: usize,
@@ -158,20 +172,20 @@ fn print_rest(
     ensures { HeardOf (channel_samples s.now channel) (channel_end s.now channel) result }
 {
     if long {
-        return print_long(fd, s, r, channel, first, from);
+        return print_long(to, s, r, channel, first, from);
     }
     let mut samples = pushed_room();
-    let h = print_blocks(fd, s, r, channel, first, from, &mut samples);
+    let h = print_blocks(to, s, r, channel, first, from, &mut samples);
     let reply = h.reply;
     if is_short(reply) {
         let decoder = h.decoder;
-        return print_rest(fd, s, r, channel, decoder, h.length, true);
+        return print_rest(to, s, r, channel, decoder, h.length, true);
     }
     ended(h)
 }
 
 // Prints a channel's samples, up to those of which the system does not take all.
-pub fn print_channel(fd: i32, s: &[u8], channel: usize) -> Heard
+pub fn print_channel<W: Write>(to: &mut W, s: &[u8], channel: usize) -> Heard
     ensures { HeardOf (channel_samples s.now channel) (channel_end s.now channel) result }
 {
     let opened = open(s);
@@ -188,7 +202,7 @@ pub fn print_channel(fd: i32, s: &[u8], channel: usize) -> Heard
         }
         OpenReply::Opened => {
             let first = new_decoder();
-            print_rest(fd, s, r, channel, first, 0, false)
+            print_rest(to, s, r, channel, first, 0, false)
         }
     }
 }

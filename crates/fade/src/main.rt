@@ -5,14 +5,17 @@ ghost use Rattle.std.specs.Prelude.{◌-◌, ◌%◌, ◌≤◌, ◌<◌, ◌≡
 
 use fader::FadeReply;
 use fader_pcm::fade_pcm;
-use io::{buffer, count, large_buffer, write_all};
+use host_io::host::{arg, arg_count, fail};
+use host_io::remembering::Remembering;
+use host_io::{buffer, large_buffer, write_all};
 use key_print::print_stop;
-use libc::{STDERR_FILENO, STDIN_FILENO, STDOUT_FILENO};
 use script_words::numbers::{Number, unsigned};
+use std::env::Env;
+use std::io::{Read, Write};
 
-fn help() {
+fn help<E: Write>(err: &mut E) {
     write_all(
-        STDERR_FILENO,
+        err,
         b"fade LEVEL    samples, 16 bits little-endian, faded from standard input to standard output
 
 LEVEL is 0 (silence) to 1,023 (as they are). A refusal is a line STOP and its number on standard error.
@@ -37,20 +40,20 @@ fn ended() -> Turn
 }
 
 // The input has ended, with half a sample or without.
-fn at_end(held: usize) {
+fn at_end<E: Write>(err: &mut E, held: usize) {
     if held != 0 {
         write_all(
-            STDERR_FILENO,
+            err,
             b"fade: the last byte is half a sample: it was left out\n",
         );
     }
 }
 
 // Fades the samples of a portion and prints them; half a sample at its end is left where it is.
-fn print_faded(level: usize, bytes: &mut [u8]) -> bool {
+fn print_faded<W: Write>(to: &mut W, level: usize, bytes: &mut [u8]) -> bool {
     fade_pcm(level, bytes);
     let n = bytes.len();
-    write_all(STDOUT_FILENO, &bytes[..n - n % 2])
+    write_all(to, &bytes[..n - n % 2])
 }
 
 // Half a sample at the end of the first n bytes goes to the start of the room; how many bytes are held.
@@ -64,38 +67,52 @@ fn hold(room: &mut [u8], n: usize) -> usize
 }
 
 // Reads a portion behind the bytes that are held, and prints it faded.
-fn fade_some(level: usize, room: &mut [u8], held: usize) -> Turn
+fn fade_some<R: Read, W: Write, E: Write>(
+    from: &mut R,
+    to: &mut Remembering<W>,
+    err: &mut E,
+    level: usize,
+    room: &mut [u8],
+    held: usize,
+) -> Turn
     requires { (length room.old ≡ 65536) × (held ≤ 1) }
     ensures { result.held ≤ 1 }
 {
-    let got = libc::read(STDIN_FILENO, &mut room[held..]);
-    if got < 0 {
-        os::fail(b"standard input");
-        return ended();
-    }
-    let k = count(got, &room[held..]);
-    if k == 0 {
-        at_end(held);
-        return ended();
-    }
-    let n = held + k;
-    if !print_faded(level, &mut room[..n]) {
-        os::fail(b"standard output");
-        return ended();
-    }
-    Turn {
-        held: hold(room, n),
-        more: true,
+    match from.read(&mut room[held..]) {
+        Err(error) => {
+            fail(err, b"standard input", error);
+            ended()
+        }
+        Ok(0) => {
+            at_end(err, held);
+            ended()
+        }
+        Ok(k) => {
+            let n = held + k;
+            if !print_faded(to, level, &mut room[..n]) {
+                to.tell(err, b"standard output");
+                return ended();
+            }
+            Turn {
+                held: hold(room, n),
+                more: true,
+            }
+        }
     }
 }
 
 // Portion after portion. That it ends is proved by the count of what may still come: more portions than any input has.
-fn fade_all(level: usize) {
+fn fade_all<R: Read, W: Write, E: Write>(
+    from: &mut R,
+    to: &mut Remembering<W>,
+    err: &mut E,
+    level: usize,
+) {
     let mut room = large_buffer();
     let mut held: usize = 0;
     let mut portions = u64::MAX;
     while portions > 0 {
-        let turn = fade_some(level, &mut room, held);
+        let turn = fade_some(from, to, err, level, &mut room, held);
         if !turn.more {
             return;
         }
@@ -105,30 +122,32 @@ fn fade_all(level: usize) {
 }
 
 // The argument LEVEL.
-fn level() -> Number {
+fn level<R: Env>(rt: &R) -> Number {
     let mut word = buffer();
-    let n = os::arg(1, &mut word);
+    let n = arg(rt, 1, &mut word);
     unsigned(&word[..n], 18446744073709551615)
 }
 
-fn main() {
-    let chosen = level();
+fn main(rt: HostRuntime) {
+    let mut err = rt.stderr();
+    let chosen = level(&rt);
     if !chosen.good {
-        help();
+        help(&mut err);
         return;
     }
-    if os::arg_count() != 2 {
-        help();
+    if arg_count(&rt) != 2 {
+        help(&mut err);
         return;
     }
     let mut none = [0u8; 0];
     let reply = fade_pcm(chosen.value as usize, &mut none);
     match reply {
         FadeReply::Refused(number) => {
-            print_stop(STDERR_FILENO, number);
+            print_stop(&mut err, number);
         }
         FadeReply::Faded => {
-            fade_all(chosen.value as usize);
+            let mut out = Remembering::new(rt.stdout());
+            fade_all(&mut rt.stdin(), &mut out, &mut err, chosen.value as usize);
         }
     }
 }

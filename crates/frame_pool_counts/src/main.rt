@@ -6,10 +6,10 @@
 use crate::routes::{a_first, b_first, exchanged, in_turns, reached};
 use crate::trial::{Trial, agrees, serves_take};
 use frame_pool::DecoderId;
-use io::write_all;
+use host_io::write_all;
 use key_lines::Column;
 use key_lines::line::put_line;
-use libc::STDOUT_FILENO;
+use std::io::Write;
 
 mod plain; // plain.rt: the rule, over who holds each frame
 mod routes; // routes.rt: the calls that lead to a pair
@@ -73,7 +73,7 @@ fn with_exchanges(before: Found, a: u8, b: u8) -> Found {
 // A line's size: its word, four columns, the newline.
 const LINE_SIZE: usize = 4 + 4 * 11 + 1;
 
-fn print_line(word: &[u8; 4], a: u8, b: u8, found: Found) {
+fn print_line<W: Write>(to: &mut W, word: &[u8; 4], a: u8, b: u8, found: Found) {
     let columns = [
         Column::Number(a as u64),
         Column::Number(b as u64),
@@ -83,28 +83,29 @@ fn print_line(word: &[u8; 4], a: u8, b: u8, found: Found) {
     ];
     let mut line = [0u8; LINE_SIZE];
     put_line(&mut line, 0, word, columns);
-    write_all(STDOUT_FILENO, &line);
+    write_all(to, &line);
 }
 
-fn print_pair(a: u8, b: u8) {
+fn print_pair<W: Write>(to: &mut W, a: u8, b: u8) {
     let found = with_exchanges(by_takes(a, b), a, b);
     if !found.same {
-        print_line(b"DIFF", a, b, found);
+        print_line(to, b"DIFF", a, b, found);
         return;
     }
     if found.reached {
-        print_line(b"HELD", a, b, found);
+        print_line(to, b"HELD", a, b, found);
     }
 }
 
-fn print_row(a: u8) {
+fn print_row<W: Write>(to: &mut W, a: u8) {
     for b in 0..=16 {
-        print_pair(a, b);
+        print_pair(to, a, b);
     }
 }
 
-fn main() {
+fn main(rt: HostRuntime) {
+    let mut to = rt.stdout();
     for a in 0..=16 {
-        print_row(a);
+        print_row(&mut to, a);
     }
 }

@@ -1,12 +1,11 @@
 // The marking key: the listing of the slot on standard input, on standard output.
 #![tactic(auto)]
 
-use io::read_full;
+use host_io::read_full;
 use key_print::{print_listing, slot_room};
-use libc::{STDIN_FILENO, STDOUT_FILENO};
 
-fn main() {
+fn main(rt: HostRuntime) {
     let mut slot = slot_room();
-    let n = read_full(STDIN_FILENO, &mut slot);
-    print_listing(STDOUT_FILENO, &slot[..n]);
+    let n = read_full(&mut rt.stdin(), &mut slot);
+    print_listing(&mut rt.stdout(), &slot[..n]);
 }

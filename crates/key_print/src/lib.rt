@@ -9,12 +9,13 @@ ghost use Rattle.key_lines.specs.Lines.{stop_line};
 ghost use Rattle.key_listing.specs.MarkingKey.{listing, listing_from};
 ghost use Rattle.key_print.specs.Portions.{PrintedOf, Held, MoreIs, Common};
 
-use io::{large_buffer, write_all};
+use host_io::{large_buffer, write_all};
 use key_lines::put_stop;
 use key_listing::Stage;
 use key_listing::listing::fill;
 use key_listing::start::start_listing;
 use reader::HpsReader;
+use std::io::Write;
 
 // Room for a slot: one byte more than is listed, so that a longer slot is seen to be longer.
 pub fn slot_room() -> [u8; 65537]
@@ -31,14 +32,14 @@ pub struct Printed {
 }
 
 // What is handed to the system is the listing from this byte on: slot and number are there for the premise alone.
-fn write_lines(fd: i32, s: &[u8], from: usize, bytes: &[u8]) -> bool
+fn write_lines<W: Write>(to: &mut W, s: &[u8], from: usize, bytes: &[u8]) -> bool
     requires { bytes.now ≡ take (length bytes.now) (drop from (listing s.now)) }
 {
-    write_all(fd, bytes)
+    write_all(to, bytes)
 }
 
 // Prints the listing of a slot, up to the portion of which the system does not take all.
-pub fn print_listing(fd: i32, s: &[u8]) -> Printed
+pub fn print_listing<W: Write>(to: &mut W, s: &[u8]) -> Printed
     ensures { PrintedOf (listing s.now) result }
 {
     let start = start_listing(s);
@@ -55,7 +56,7 @@ pub fn print_listing(fd: i32, s: &[u8]) -> Printed
                 whole: true,
             };
         }
-        let all = write_lines(fd, s, length, &out[..n]);
+        let all = write_lines(to, s, length, &out[..n]);
         length += n;
         if !all {
             return Printed {
@@ -71,19 +72,19 @@ pub fn print_listing(fd: i32, s: &[u8]) -> Printed
 const STOP_SIZE: usize = 4 + 11 + 1;
 
 // What is handed to the system is a refusal's line: the number is there for the premise alone.
-fn write_stop(fd: i32, number: u32, bytes: &[u8])
+fn write_stop<W: Write>(to: &mut W, number: u32, bytes: &[u8])
     requires { bytes.now ≡ stop_line number }
 {
-    write_all(fd, bytes);
+    write_all(to, bytes);
 }
 
 // Prints the line of a refusal; how many bytes the system was handed.
-pub fn print_stop(fd: i32, number: u32) -> usize
+pub fn print_stop<W: Write>(to: &mut W, number: u32) -> usize
     ensures { result ≡ length (stop_line number) }
 {
     let mut line = [0u8; STOP_SIZE];
     let n = put_stop(&mut line, 0, number);
-    write_stop(fd, number, &line[..n]);
+    write_stop(to, number, &line[..n]);
     n
 }
 

@@ -8,13 +8,15 @@ ghost use Rattle.frame_pool_lines.specs.PoolText.{answers_from};
 
 use frame_pool_lines::says::LINE_LIMIT;
 use frame_pool_lines::{Progress, answer_lines, new_progress};
-use io::{buffer, count, large_buffer, write_all};
-use libc::{STDERR_FILENO, STDIN_FILENO, STDOUT_FILENO};
+use host_io::host::{arg_count, fail};
+use host_io::remembering::Remembering;
+use host_io::{buffer, large_buffer, write_all};
 use script_words::text::whole_lines;
+use std::io::{Read, Write};
 
-fn help() {
+fn help<E: Write>(err: &mut E) {
     write_all(
-        STDERR_FILENO,
+        err,
         b"pool    takes and gives of two decoders on one pool of sixteen frames
 
 Reads lines TAKE A, TAKE B, GIVE A n and GIVE B n from standard input, and prints for each a line:
@@ -51,14 +53,20 @@ fn stopped(progress: Progress) -> Turn
 }
 
 // What is handed to the system are the answers to the lines of this text: progress and text are there for the premise alone.
-fn write_answers(from: Progress, text: &[u8], answers: &[u8]) -> bool
+fn write_answers<W: Write>(to: &mut W, from: Progress, text: &[u8], answers: &[u8]) -> bool
     requires { answers.now ≡ answers_from from (parted text.now) }
 {
-    write_all(STDOUT_FILENO, answers)
+    write_all(to, answers)
 }
 
 // Prints the answers to the lines of a text, and holds so many bytes for the next portion.
-fn answer(from: Progress, text: &[u8], held: usize) -> Turn
+fn answer<W: Write, E: Write>(
+    to: &mut Remembering<W>,
+    err: &mut E,
+    from: Progress,
+    text: &[u8],
+    held: usize,
+) -> Turn
     requires { (length text.now ≤ 4096) × (held < 4096) }
     ensures { result.held < 4096 }
 {
@@ -66,8 +74,8 @@ fn answer(from: Progress, text: &[u8], held: usize) -> Turn
     let answered = answer_lines(from, text, &mut out);
     let n = answered.length;
     let progress = answered.progress;
-    if !write_answers(from, text, &out[..n]) {
-        os::fail(b"standard output");
+    if !write_answers(to, from, text, &out[..n]) {
+        to.tell(err, b"standard output");
         return stopped(progress);
     }
     Turn { progress, held }
@@ -100,37 +108,50 @@ fn answerable(bytes: &[u8]) -> usize
 }
 
 // Answers what the room has of whole lines in its first n bytes, and holds the rest.
-fn answer_read(from: Progress, room: &mut [u8], n: usize) -> Turn
+fn answer_read<W: Write, E: Write>(
+    to: &mut Remembering<W>,
+    err: &mut E,
+    from: Progress,
+    room: &mut [u8],
+    n: usize,
+) -> Turn
     requires { (length room.old ≡ 4096) × (n ≤ 4096) }
     ensures { result.held < 4096 }
 {
     let whole = answerable(&room[..n]);
-    let turn = answer(from, &room[..whole], n - whole);
+    let turn = answer(to, err, from, &room[..whole], n - whole);
     hold(room, whole, n);
     turn
 }
 
 // Reads a portion behind the bytes that are held, and answers its lines. At the end of the input what is held is the last line.
-fn answer_some(from: Progress, room: &mut [u8], held: usize) -> Turn
+fn answer_some<R: Read, W: Write, E: Write>(
+    input: &mut R,
+    to: &mut Remembering<W>,
+    err: &mut E,
+    from: Progress,
+    room: &mut [u8],
+    held: usize,
+) -> Turn
     requires { (length room.old ≡ 4096) × (held < 4096) }
     ensures { result.held < 4096 }
 {
-    let got = libc::read(STDIN_FILENO, &mut room[held..]);
-    if got < 0 {
-        os::fail(b"standard input");
-        return stopped(from);
+    match input.read(&mut room[held..]) {
+        Err(error) => {
+            fail(err, b"standard input", error);
+            stopped(from)
+        }
+        Ok(0) => {
+            let last = answer(to, err, from, &room[..held], 0);
+            let progress = last.progress;
+            stopped(progress)
+        }
+        Ok(k) => answer_read(to, err, from, room, held + k),
     }
-    let k = count(got, &room[held..]);
-    if k == 0 {
-        let last = answer(from, &room[..held], 0);
-        let progress = last.progress;
-        return stopped(progress);
-    }
-    answer_read(from, room, held + k)
 }
 
 // Portion after portion. That it ends is proved by the count of what may still come: more portions than any input has.
-fn answer_all() {
+fn answer_all<R: Read, W: Write, E: Write>(input: &mut R, to: &mut Remembering<W>, err: &mut E) {
     let mut room = buffer();
     let mut progress = new_progress();
     let mut held: usize = 0;
@@ -139,17 +160,19 @@ fn answer_all() {
         if progress.ended {
             return;
         }
-        let turn = answer_some(progress, &mut room, held);
+        let turn = answer_some(input, to, err, progress, &mut room, held);
         progress = turn.progress;
         held = turn.held;
         portions -= 1;
     }
 }
 
-fn main() {
-    if os::arg_count() != 1 {
-        help();
+fn main(rt: HostRuntime) {
+    let mut err = rt.stderr();
+    if arg_count(&rt) != 1 {
+        help(&mut err);
         return;
     }
-    answer_all();
+    let mut out = Remembering::new(rt.stdout());
+    answer_all(&mut rt.stdin(), &mut out, &mut err);
 }

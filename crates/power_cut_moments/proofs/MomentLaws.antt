@@ -1,6 +1,7 @@
 -- The first bytes of a write, and of a list of writes.
 use Prim.Native.Nat.{ℕ, suc, ◌+◌, ◌-◌, ◌<◌, ◌≤◌, min}
 use mathlib.Core.Path.{◌≡◌, refl, ap, sym, ◌∙◌}
+use mathlib.Core.Bool.{true}
 use mathlib.Core.List.{List, [], ◌∷◌}
 use native.Mathlib.Omega.{arith}
 use native.Mathlib.Numerals.{add-one}
@@ -93,6 +94,15 @@ slot_start s (w ∷ ws) =
     rw (n, none-reached s w) (slot_start s ws))
     (λ t. rw (t, none-reached s w))
 
+-- Where the first write has reached the slot whole, the others are next.
+slot_later : (s : List ℕ) (w : Write) (ws : List Write) (m : ℕ) → leb (length w.bytes) m ≡ true → slot_at s (w ∷ ws) m ≡ slot_at (reached s w (length w.bytes)) ws (m - length w.bytes)
+unfolding slot_at
+slot_later s w ws m t = rw t
+
+next_later : (s : List ℕ) (w : Write) (ws : List Write) (m : ℕ) → leb (length w.bytes) m ≡ true → next_byte s (w ∷ ws) m ≡ next_byte s ws (m - length w.bytes)
+unfolding next_byte
+next_later s w ws m t = rw t
+
 -- One byte more of the slot at a moment is the slot at the next.
 pub next_slot : (s : List ℕ) (ws : List Write) (m : ℕ) → next_byte (slot_at s ws m) ws m ≡ slot_at s ws (m + 1)
 unfolding slot_at next_byte
@@ -103,7 +113,11 @@ next_slot s (w ∷ ws) m =
     (λ t.
     let h : n ≤ m = leb-true n m t in
     let k : m + 1 - n ≡ m - n + 1 = omega arith in
-    rw (t, le-leb n (m + 1) (omega arith), k) (next_slot (reached s w n) ws (m - n)))
+    next_later (slot_at s (w ∷ ws) m) w ws m t
+    ∙ ap (λ (x : List ℕ). next_byte x ws (m - n)) (slot_later s w ws m t)
+    ∙ next_slot (reached s w n) ws (m - n)
+    ∙ ap (slot_at (reached s w n) ws) (sym k)
+    ∙ sym (slot_later s w ws (m + 1) (le-leb n (m + 1) (omega arith))))
     (λ t.
     let h : m < n = leb-false n m t in
     let e = next-reached s w.offset w.bytes m h in

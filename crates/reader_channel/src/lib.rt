@@ -35,7 +35,7 @@ pub fn read<'a>(c: ChannelReader<'a>, r: HpsReader, channel: usize) -> BlockCall
 pub fn data<'a>(c: ChannelReader<'a>, r: HpsReader, channel: usize) -> &'a [u8]
     requires { Readable r }
     ensures { (result.now ≡ block_data (block_read c.entry.slot.now r channel c.entry.position))
-        × (result.ref_ptr ≡ bytes_on c.entry.slot.ptr (block_start (block_read c.entry.slot.now r channel c.entry.position))) }
+        × (result.ref_ptr ≡ bytes_on c.entry.slot.ref_ptr (block_start (block_read c.entry.slot.now r channel c.entry.position))) }
 {
     block_data(c.slot, r, channel, c.position)
 }

@@ -6,7 +6,7 @@ use mathlib.Core.List.{List, []}
 use native.Mathlib.Omega.{arith}
 use lib.ListN.{length, drop, get_or, replicate, get_or-append}
 use lib.Seq.{take-append_seam}
-use Rattle.layout.specs.Choice.{pick, ◌or◌}
+use Rattle.layout.specs.Choice.{pick}
 use Rattle.layout.specs.Lists.{none}
 use Rattle.layout.specs.Records.{first_block_offset}
 use Rattle.layout.specs.Refusals.{wrong_count, block_limit}
@@ -14,7 +14,7 @@ use Rattle.layout.specs.declared.Channel.{Channel}
 use Rattle.layout.proofs.ListLaws.{all_drop, all-at}
 use Rattle.reader.specs.declared.LoopStart.{LoopStart}
 use Rattle.reader.specs.declared.HpsReader.{HpsReader}
-use Rattle.reader.specs.OpeningAndReading.{Walked, walked, walk_from, made, offset_in, offsets_from, data_remaining}
+use Rattle.reader.specs.OpeningAndReading.{Walked, walk_from, made, offset_in, offsets_from, data_remaining}
 use Rattle.reader.specs.CuesReadBack.{looped, first_cursor}
 use Rattle.reader.proofs.OpenedLaws.{opened_parts_lem, one_or_two}
 use Rattle.reader_laws.specs.ReaderLaws.{cue_count, Accepted, OpeningLaws}

@@ -2,7 +2,6 @@
 ghost use Rattle.std.specs.Prelude.{◌≡◌, length};
 ghost use Rattle.writer.specs.Calls.{Good};
 
-use check::same;
 use layout::least;
 use layout::limits::{BLOCK_HEADER_SIZE, CUE_LIMIT, CUE_POINT_SIZE, MONO_LIMIT};
 use layout_number_or_zero::word;
@@ -55,7 +54,7 @@ fn lend(step: &[u8], w: HpsWriter, slot: &mut [u8], lent: &mut [u8]) -> Left
 
 // Whether these bytes lie in the slot.
 fn has_bytes(slot: &[u8], at: usize, bytes: &[u8]) -> bool {
-    same(part(slot, at, bytes.len()), bytes)
+    part(slot, at, bytes.len()) == bytes
 }
 
 // 0 what is done, 4 the number of the refusal, or 0, 8 the slot's length, with bytes their place; then what the call is given.

@@ -7,11 +7,11 @@ use crate::decoding::decoding_case;
 use crate::estimates::estimate_case;
 use crate::loading::loading_case;
 use crate::slot::slot_case;
-use io::{print_decimal, read_full, write_all};
+use host_io::{print_decimal, read_full, write_all};
 use layout_number_or_zero::word;
-use libc::{STDIN_FILENO, STDOUT_FILENO};
 use replay_input::report::report_case;
 use replay_input::{input_room, part, size};
+use std::io::Write;
 
 mod decoding; // decoding.rt: the blocks of a slot decoded into lent places
 mod estimates; // estimates.rt: the estimate
@@ -32,14 +32,14 @@ fn other_in(kind: u32, body: &[u8]) -> usize {
 }
 
 // The last line.
-fn report_counts(cases: usize, others: usize) {
-    print_decimal(STDOUT_FILENO, cases as u64);
-    write_all(STDOUT_FILENO, b" cases, ");
-    print_decimal(STDOUT_FILENO, others as u64);
-    write_all(STDOUT_FILENO, b" other\n");
+fn report_counts<W: Write>(to: &mut W, cases: usize, others: usize) {
+    print_decimal(to, cases as u64);
+    write_all(to, b" cases, ");
+    print_decimal(to, others as u64);
+    write_all(to, b" other\n");
 }
 
-fn run(all: &[u8]) {
+fn run<W: Write>(to: &mut W, all: &[u8]) {
     let mut at: usize = 0;
     let mut cases: usize = 0;
     let mut others: usize = 0;
@@ -49,15 +49,15 @@ fn run(all: &[u8]) {
         }
         let n = size(all, at + 4);
         let place = other_in(word(all, at), part(all, at + 8, n));
-        others = others + report_case(cases, place);
+        others = others + report_case(to, cases, place);
         at = at + 8 + n;
         cases += 1;
     }
-    report_counts(cases, others);
+    report_counts(to, cases, others);
 }
 
-fn main() {
+fn main(rt: HostRuntime) {
     let mut input = input_room();
-    let n = read_full(STDIN_FILENO, &mut input);
-    run(&input[..n]);
+    let n = read_full(&mut rt.stdin(), &mut input);
+    run(&mut rt.stdout(), &input[..n]);
 }

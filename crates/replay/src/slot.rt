@@ -4,8 +4,7 @@ ghost use Rattle.reader.specs.OpeningAndReading.{Readable, block_read};
 ghost use Rattle.reader_block.specs.BlockAnswers.{block_call};
 ghost use Rattle.layout.specs.Refusals.{block_limit};
 
-use check::same;
-use io::large_buffer;
+use host_io::large_buffer;
 use key_listing::listing::fill;
 use key_listing::start::start_listing;
 use layout::{Channel, DspFormat, FrameContext};
@@ -43,7 +42,7 @@ fn is_listing(s: &[u8], want: &[u8]) -> bool {
         if n == 0 {
             return done == want.len();
         }
-        if !same(&out[..n], part(want, done, n)) {
+        if &out[..n] != part(want, done, n) {
             return false;
         }
         stage = filled.stage;
@@ -171,7 +170,7 @@ fn is_answer(
     let q = reader_answer(s, r, channel, position);
     is_remaining(left, want)
         & is_block(q, position, want)
-        & same(block_data(s, r, channel, position), data)
+        & (block_data(s, r, channel, position) == data)
 }
 
 // From an offset of the body on: channel, position, the answer, how many bytes of data and the data, again and again.

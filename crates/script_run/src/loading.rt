@@ -15,6 +15,7 @@ use script_groups::{lent_after, start_of};
 use script_lines::kinds::{Kind, kind_of};
 use script_lines::lines::begin_line;
 use script_words::text::{line_at, next_line};
+use std::io::Write;
 use writer::{HpsWriter, Reply};
 
 // The longest script.
@@ -43,7 +44,14 @@ pub struct Loaded {
 }
 
 // The line that starts here.
-fn load_line(v: Output, s: &[u8], at: usize, next: usize, st: Loading, logged: &mut [u8]) -> Loading
+fn load_line<W: Write>(
+    v: &mut Output<'_, W>,
+    s: &[u8],
+    at: usize,
+    next: usize,
+    st: Loading,
+    logged: &mut [u8],
+) -> Loading
     requires good { Good st.writer × (length s.now ≤ script_limit) }
     requires at_in_bounds { (at < length s.now) × (drop next s.now ≡ lines_after (drop at s.now)) }
     ensures { Follows s.now at st logged.old result logged.new }
@@ -65,7 +73,13 @@ fn load_line(v: Output, s: &[u8], at: usize, next: usize, st: Loading, logged: &
 }
 
 // The lines from here on.
-fn load_lines(v: Output, s: &[u8], from: usize, start: Loading, logged: &mut [u8]) -> Loading
+fn load_lines<W: Write>(
+    v: &mut Output<'_, W>,
+    s: &[u8],
+    from: usize,
+    start: Loading,
+    logged: &mut [u8],
+) -> Loading
     requires { Good start.writer × (length s.now ≤ script_limit) }
     ensures { logging result.log logged.new ≡ all_of start logged.old (lines_of (drop from s.now)) }
 {
@@ -111,7 +125,14 @@ fn nothing() -> Loaded
 }
 
 // The calls after an accepted begin, of the lines from here on.
-fn load_rest(v: Output, s: &[u8], from: usize, m: Made, lent: usize, logged: &mut [u8]) -> Loaded
+fn load_rest<W: Write>(
+    v: &mut Output<'_, W>,
+    s: &[u8],
+    from: usize,
+    m: Made,
+    lent: usize,
+    logged: &mut [u8],
+) -> Loaded
     requires { Good m.writer × (length s.now ≤ script_limit) }
     ensures value { result ≡ record { refused = false; log = (log_run m.writer (logging m.log logged.old) (calls_in lent (lines_of (drop from s.now)))).log } }
     ensures logged_after { logged.new ≡ (log_run m.writer (logging m.log logged.old) (calls_in lent (lines_of (drop from s.now)))).bytes }
@@ -133,14 +154,14 @@ fn load_rest(v: Output, s: &[u8], from: usize, m: Made, lent: usize, logged: &mu
 }
 
 // Tells begin's call: its refusal in every case, since it is the whole answer then.
-fn report_begin(v: Output, refused: bool, reply: Reply, log: WriteLog) {
+fn report_begin<W: Write>(v: &mut Output<'_, W>, refused: bool, reply: Reply, log: WriteLog) {
     if v.verbose | refused {
-        report_call(v.fd, 0, reply, log, 0);
+        report_call(v.to, 0, reply, log, 0);
     }
 }
 
 // The calls of a script that is not too long.
-fn load_script(v: Output, s: &[u8], slot: usize, logged: &mut [u8]) -> Loaded
+fn load_script<W: Write>(v: &mut Output<'_, W>, s: &[u8], slot: usize, logged: &mut [u8]) -> Loaded
     requires { length s.now ≤ script_limit }
     ensures value { result ≡ record { refused = begin_refused slot s.now; log = (begun_log slot s.now logged.old).log } }
     ensures logged_after { logged.new ≡ (begun_log slot s.now logged.old).bytes }
@@ -161,7 +182,7 @@ fn load_script(v: Output, s: &[u8], slot: usize, logged: &mut [u8]) -> Loaded
 }
 
 // The calls of a well-formed script on a slot of this length; a refused begin ends it.
-pub fn load(v: Output, s: &[u8], slot: usize, logged: &mut [u8]) -> Loaded
+pub fn load<W: Write>(mut v: Output<'_, W>, s: &[u8], slot: usize, logged: &mut [u8]) -> Loaded
     ensures value { result ≡ loaded_by slot s.now logged.old }
     ensures logged_after { logged.new ≡ (load_log slot s.now logged.old).bytes }
 {
@@ -171,5 +192,5 @@ pub fn load(v: Output, s: &[u8], slot: usize, logged: &mut [u8]) -> Loaded
     if logged.len() < LOG_SIZE {
         return nothing();
     }
-    load_script(v, s, slot, logged)
+    load_script(&mut v, s, slot, logged)
 }

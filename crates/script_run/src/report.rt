@@ -2,32 +2,39 @@
 use cut_report::{print_line, reply_line, write_line};
 use cut_write_log::WriteLog;
 use script_lines::kinds::Kind;
+use std::io::Write;
 use writer::{MOST_WRITES, Reply};
 
 // Where calls are reported, and whether they are.
-#[derive(Clone, Copy)]
-pub struct Output {
-    pub fd: i32,
+#[derive(Drop)]
+pub struct Output<'a, W> {
+    pub to: &'a mut W,
     pub verbose: bool,
 }
 
 // The writes logged from here on.
-fn report_writes(fd: i32, call: u64, log: WriteLog, from: usize) {
+fn report_writes<W: Write>(to: &mut W, call: u64, log: WriteLog, from: usize) {
     let places = log.places;
     let mut i = from;
     while i < log.count {
         if i < MOST_WRITES {
             let place = places[i];
-            print_line(fd, write_line(call, place));
+            print_line(to, write_line(call, place));
         }
         i += 1;
     }
 }
 
 // Reports a call: its reply, and the writes that are logged from its first on.
-pub(crate) fn report_call(fd: i32, call: u64, reply: Reply, log: WriteLog, from: usize) {
-    print_line(fd, reply_line(call, reply));
-    report_writes(fd, call, log, from);
+pub(crate) fn report_call<W: Write>(
+    to: &mut W,
+    call: u64,
+    reply: Reply,
+    log: WriteLog,
+    from: usize,
+) {
+    print_line(to, reply_line(call, reply));
+    report_writes(to, call, log, from);
 }
 
 // Whether a line makes a call: CHAN's is made at its PUSH.
@@ -43,8 +50,8 @@ fn one_more(n: u64) -> u64 {
 }
 
 // Reports a line's call, if it makes one and calls are reported; the next call's number.
-pub(crate) fn report_line(
-    v: Output,
+pub(crate) fn report_line<W: Write>(
+    v: &mut Output<'_, W>,
     call: u64,
     kind: Kind,
     reply: Reply,
@@ -55,7 +62,7 @@ pub(crate) fn report_line(
         return call;
     }
     if v.verbose {
-        report_call(v.fd, call, reply, log, from);
+        report_call(v.to, call, reply, log, from);
     }
     one_more(call)
 }

@@ -1,5 +1,5 @@
 -- The cues that a block takes of the table, and their bytes, as push's code works them out.
-use Rattle.std.specs.Prelude.{ℕ, ◌+◌, ◌≤◌, ◌≡◌, pos}
+use Rattle.std.specs.Prelude.{ℕ, ◌≤◌, ◌≡◌, pos}
 use mathlib.Core.List.{List, ◌++◌, flat_map}
 use Rattle.std.proofs.Math.Seq.{slice}
 use Rattle.layout.specs.Records.{cue_bytes, fillers}

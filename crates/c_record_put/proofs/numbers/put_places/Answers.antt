@@ -1,0 +1,9 @@
+use Rattle.c_record_put.proofs.NumberLaws.{places_put}
+use Rattle.c_record_put.proofs.numbers.put_places.Goals as goal
+
+pub returns : goal.returns
+returns c =
+    places_put _ _ _ _ c.args.slot c.args.channels c.args.count c.args.next c.requires
+    c.put_long.ensures
+    c.put_long-2.ensures c.put_long-3.ensures
+    c.put_long-4.ensures

@@ -47,6 +47,7 @@ fn fade_by(entry: u32, samples: &mut [i16])
 }
 
 // The lent samples faded in place by the level's entry; refused, they are left.
+#[tactic(auto, using(crate::proofs::FadeLaws::too_high))]
 pub fn fade(level: usize, samples: &mut [i16]) -> FadeReply
     ensures value { result ≡ fade_reply (fading level samples.old) }
     ensures samples_after { samples.new ≡ samples_after samples.old (fading level samples.old) }

@@ -1,5 +1,5 @@
 -- The record that bytes hold after it was put there is the record that was put.
-use Prim.Native.Nat.{ℕ, zero, suc, ◌+◌, ◌-◌, ◌%◌, ◌≤◌, ◌<◌}
+use Prim.Native.Nat.{ℕ, zero, suc, ◌+◌, ◌%◌, ◌≤◌, ◌<◌}
 use mathlib.Core.Path.{◌≡◌, refl, sym, ap, ◌∙◌}
 use mathlib.Core.Bool.{Bool, true, false, not}
 use mathlib.Core.List.{List, [], ◌∷◌, ◌++◌, append_assoc, append-nil, flat_map}
@@ -9,9 +9,7 @@ use lib.Dec.{eqb}
 use lib.IntN.{ℤ}
 use mir.Syntax.{w16}
 use mir.Val.{SFits}
-use denote.Array.{each}
 use borrow.Author.Tests.{ne_eqb, le-leb}
-use Rattle.layout.specs.Choice.{◌and◌}
 use Rattle.layout.specs.Lists.{All}
 use Rattle.layout.specs.Puts.{put_at}
 use Rattle.layout.specs.Records.{be16, be32, be_z16, context_bytes}

@@ -187,6 +187,11 @@ module _ (u : Setup) (s : Stream) (t : Taken) (held : Bool) (end ch : ℕ) (l r 
     plan_empty q p e =
         e ∙ ap (λ (n : ℕ). no_plan n s) (group_no v 0 _ [] (state_numbered _ _ _) state clear refl) ∙ rw q
 
+    -- the same by what the code has of it
+    module _ (x : Bool) (asked : x ≡ empty) where
+      pub plan_asked : x ≡ true → (p : Plan) → p ≡ no_plan 0 s → p ≡ plan_of u s t held end ch l r lb rb last lent
+      plan_asked h = plan_empty (sym asked ∙ h)
+
     module _ (some : empty ≡ false) where
       rest : (n : ℕ) → n ≡ first_due (early_due s.blocks s.left s.right ch l r lb rb ++ room_due u.slot s.offset (data_after t.points + data_size ch lb rb) lent)
           → n ≡ plan_due u s t.points ch l r lb rb last lent
@@ -227,3 +232,7 @@ module _ (u : Setup) (s : Stream) (t : Taken) (held : Bool) (end ch : ℕ) (l r 
             unfolding plan_of made_plan header_in
             plan_made bytes start next other after ed es en eo ea =
                 rw (some, eq-eqb (plan_due u s t.points ch l r lb rb last lent) 0 (sym room-is ∙ fits), ed, es, en, eo, ea, looped, loops, sized)
+
+    module _ (x : Bool) (asked : x ≡ empty) (n : ℕ) (is : n ≡ first_due (early_due s.blocks s.left s.right ch l r lb rb)) where
+      pub plan_early_asked : x ≡ false → (n ≡ 0 → ⊥) → (p : Plan) → p ≡ no_plan n s → p ≡ plan_of u s t held end ch l r lb rb last lent
+      plan_early_asked h = plan_early (sym asked ∙ h) n is

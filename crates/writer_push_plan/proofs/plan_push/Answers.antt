@@ -5,7 +5,7 @@ use native.Mathlib.Omega.{arith}
 use Rattle.layout.specs.Records.{data_after}
 use Rattle.layout.specs.Refusals.{length_limit}
 use Rattle.writer.specs.Loading.{data_size, no_addresses}
-use Rattle.writer_push_plan.proofs.PlanLaws.{Passing, passing, size_small, block-small, fits-room, plan_state, plan_empty, plan_early, plan_many, plan_room, plan_made, loop_near}
+use Rattle.writer_push_plan.proofs.PlanLaws.{Passing, passing, size_small, block-small, fits-room, plan_state, plan_asked, plan_early_asked, plan_many, plan_room, plan_made, loop_near}
 use borrow.Author.Rules.{rules}
 use Rattle.writer_push_plan.proofs.plan_push.Goals as goal
 use Rattle.writer_push_plan.proofs.plan_push.Goals.{After-data_size-data, After-data_start-start, Else-early-ne0, Else-empty, Else-room-ne0}
@@ -39,15 +39,10 @@ pub returns-then-state-ne0 : goal.returns-then-state-ne0
 returns-then-state-ne0 c = search (plan_state, rules)
 
 pub returns-then-empty : goal.returns-then-empty
-returns-then-empty c =
-    plan_empty c.args.setup c.args.s c.args.taken c.args.held c.args.end c.args.channels c.args.left c.args.right c.args.left_bytes c.args.right_bytes c.args.last
-    c.args.lent _ c.state_due-state.ensures c.if-state-ne0.false (sym c.no_addresses-empty.ensures ∙ c.if-empty.true) _ c.no_plan-then-empty.ensures
+returns-then-empty c = search (plan_asked, rules)
 
 pub returns-then-early-ne0 : goal.returns-then-early-ne0
-returns-then-early-ne0 c =
-    plan_early c.args.setup c.args.s c.args.taken c.args.held c.args.end c.args.channels c.args.left c.args.right c.args.left_bytes c.args.right_bytes c.args.last
-    c.args.lent _ c.state_due-state.ensures c.if-state-ne0.false (some (goal.at.returns-then-early-ne0 c).Else-empty) _ c.early_due-early.ensures
-    c.if-early-ne0.true _ c.no_plan-then-early-ne0.ensures
+returns-then-early-ne0 c = search (plan_early_asked, rules)
 
 pub returns-then-taken-gt-SLOT_LIMIT : goal.returns-then-taken-gt-SLOT_LIMIT
 returns-then-taken-gt-SLOT_LIMIT c =

@@ -1,10 +1,9 @@
 use mathlib.Core.Path.{refl}
 use Rattle.frame_pool.specs.FramePool.{take_of, give_of, count_marked, highest_free, has_mark}
 use Rattle.frame_pool.specs.FrameLists.{pool_after, give_replies, take_answers, own_calls}
-use Rattle.frame_pool.proofs.premises_needed.Statement.{statement}
-use Rattle.frame_pool.proofs.premises_needed.Tie as tie
+use Rattle.frame_pool.proofs.premises_needed.Goals as goal
 
-returns : tie.Need-returns
+pub returns : goal.returns
 unfolding pool_after give_replies take_answers own_calls take_of give_of count_marked highest_free has_mark
 returns c =
     record {
@@ -17,6 +16,3 @@ returns c =
       refused = refl;
       nothing = refl;
     }
-
-pub premises-needed-spec : {M : Type 1} → statement M
-premises-needed-spec = tie.close (tie.spec returns)

@@ -11,7 +11,7 @@ use Rattle.layout.specs.Choice.{pick}
 use Rattle.layout.specs.Lists.{All}
 use Rattle.layout.proofs.Cases.{by_cases, apart}
 use Rattle.layout.proofs.ListLaws.{all_head, all_tail, zeros_at}
-use Rattle.frame_pool.specs.FramePool.{frame_count, share, count_marked, highest_free, has_mark, mark_of, other_decoder, free_frames, held_by, lacks}
+use Rattle.frame_pool.specs.FramePool.{frame_count, count_marked, highest_free, has_mark, mark_of, other_decoder, free_frames, held_by, lacks}
 use Rattle.frame_pool.specs.FramePool.{is_free, is_held_by, serves, new_pool, take_of, give_of}
 use Rattle.frame_pool.specs.HighestFree.{HighestFree}
 use Rattle.frame_pool.specs.FrameLists.{PoolCall, after_pool_call, pool_after, OneOfThree, OwnCall, own_calls, TakeAnswer, without_frame, take_answers}
@@ -21,6 +21,7 @@ use Rattle.frame_pool.specs.declared.Pool.{Pool}
 use Rattle.frame_pool.specs.declared.TakeReply.{TakeReply}
 use Rattle.frame_pool.specs.declared.GiveReply.{GiveReply}
 use Rattle.frame_pool.proofs.PoolLaws.{highest-below, mark_inside, mark_outside, take_served, take_refused, give_refused, give_accepted}
+use Rattle.frame_pool.proofs.SharePremises.{Given, Few}
 use Rattle.frame_pool.proofs.MoveLaws.{Marks, Took, took, gave, marked-long, marked_marks, highest_free_lem, highest_top}
 
 -- ---- A call's ways
@@ -185,12 +186,6 @@ alone : ℕ → List OwnCall → List TakeAnswer
 alone n [] = []
 alone n (OwnCall.takes ∷ os) = pick (ltb n 10) TakeAnswer.served (TakeAnswer.refused 32) ∷ alone (pick (ltb n 10) (n + 1) n) os
 alone n (OwnCall.gives ∷ os) = alone (n - 1) os
-
-abbrev Given : GiveReply → Type 0
-Given r = r ≡ GiveReply.Given
-
-abbrev Few : DecoderId → Pool → Type 0
-Few who p = held_by (other_decoder who) p ≤ share
 
 -- its own take: served exactly when it holds fewer than ten
 own_take : (who : DecoderId) (p : Pool) (rest : List TakeAnswer) (os : List OwnCall) → Counted p → Few who p → Takes p who (other_decoder who)

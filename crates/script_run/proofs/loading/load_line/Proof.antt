@@ -7,7 +7,7 @@ returns : tie.Need-returns
 returns c = follows c.before.before.before.before.before.before.before.before.before.before.before.before.before.before.args.next c.report-line.result
     c.before.before.before.before.before.before.before.before.before.before.before.before.before.before.requires.1.0
     c.before.before.before.before.before.before.before.before.before.before.before.before.before.before.requires.1.1
-    c.before.before.before.before.before.before.before.before.before.before.before.line_at_lem.ensures
+    c.before.before.before.before.before.before.before.before.before.before.before.line_at.ensures
     c.before.before.before.before.before.before.before.before.before.before.kind-of.ensures c.before.before.before.before.before.before.make.ensures
     c.before.lent-after.ensures
 

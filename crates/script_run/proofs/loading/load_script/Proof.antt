@@ -6,8 +6,8 @@ use Rattle.script_run.proofs.loading.load_script.Tie as tie
 returns : tie.Need-returns
 returns c =
     let b = c.before.before.before.before.before.before.before in
-    loads_nothing b.before.before.before.before.before.before.before.before.args.slot _ b.before.before.before.before.before.start_of_lem.ensures
-    b.before.before.before.before.line_at_lem.ensures
+    loads_nothing b.before.before.before.before.before.before.before.before.args.slot _ b.before.before.before.before.before.start_of.ensures
+    b.before.before.before.before.line_at.ensures
     b.before.before.before.begin-line.ensures b.before.before.begun-length.ensures b.begin-logged.ensures
     c.before.before.before.is-refused.ensures c.before.if1.true c.nothing.ensures
 
@@ -18,8 +18,8 @@ load-rest-requires c κs = let b = c.before.before.before.before.before.before.b
 returns-2 : tie.Need-returns-2
 returns-2 c =
     let b = c.before.before.before.before.before.before.before.before.before.before.before in
-    loads_all b.before.before.before.before.before.before.before.before.args.slot _ b.before.before.before.before.before.start_of_lem.ensures
-    b.before.before.before.before.line_at_lem.ensures
+    loads_all b.before.before.before.before.before.before.before.before.args.slot _ b.before.before.before.before.before.start_of.ensures
+    b.before.before.before.before.line_at.ensures
     b.before.before.before.begin-line.ensures b.before.before.begun-length.ensures b.begin-logged.ensures
     c.before.before.before.before.before.before.before.is-refused.ensures c.before.before.before.before.next-line.result c.before.before.before.before.before.if1.false
     c.before.before.before.before.next-line.ensures.0 c.before.before.load-rest.ensures

@@ -8,7 +8,7 @@ push-sides-requires : tie.Need-push-sides-requires
 push-sides-requires c κs = (
   c.before.before.before.before.before.before.before.before.requires.0,
   (
-    line-fits c.before.before.before.before.before.before.before.before.args.s.now c.before.before.before.sides-from.result.left c.before.before.line_at_lem.ensures
+    line-fits c.before.before.before.before.before.before.before.before.args.s.now c.before.before.before.sides-from.result.left c.before.before.line_at.ensures
         c.before.before.before.before.before.before.before.before.requires.1,
     line-fits c.before.before.before.before.before.before.before.before.args.s.now c.before.before.before.sides-from.result.right c.before.line-at2.ensures
         c.before.before.before.before.before.before.before.before.requires.1,
@@ -17,7 +17,7 @@ push-sides-requires c κs = (
 
 returns : tie.Need-returns
 returns c = push_made _ _ _ _ _ c.before.before.before.before.before.before.before.push-line.ensures
-    (c.before.before.before.before.before.line_at_lem.ensures ∙ c.before.before.before.before.before.before.sides-from.ensures.0)
+    (c.before.before.before.before.before.line_at.ensures ∙ c.before.before.before.before.before.before.sides-from.ensures.0)
     (c.before.before.before.before.line-at2.ensures ∙ c.before.before.before.before.before.before.sides-from.ensures.1) c.before.before.push-sides.ensures
 
 pub push-call-spec : {M : Type 1} → statement M

@@ -1,5 +1,5 @@
 use Rattle.std.proofs.Common.{arith}
-use Rattle.pool.proofs.PortionLaws.{moving_none, moving_long, moving_more, moving_all}
+use Rattle.pool.proofs.PortionLaws.{moving_none, moving_more, moving_all}
 use Rattle.pool.proofs.hold.Goals as goal
 
 pub loop-i-init : goal.loop-i-init

@@ -1,8 +1,8 @@
 -- The record that bytes hold after a push is the record that the push gives.
-use Prim.Native.Nat.{ℕ, ◌+◌, ◌-◌, ◌≤◌}
-use mathlib.Core.Path.{◌≡◌, refl, sym, ap, subst, ◌∙◌}
+use Prim.Native.Nat.{ℕ, ◌+◌, ◌≤◌}
+use mathlib.Core.Path.{◌≡◌, refl, sym, ap, ◌∙◌}
 use mathlib.Core.Bool.{Bool, false}
-use mathlib.Core.List.{List, [], ◌∷◌, map, map-id}
+use mathlib.Core.List.{List, [], ◌∷◌}
 use native.Mathlib.Omega.{arith}
 use lib.ListN.{length}
 use lib.Dec.{eqb}
@@ -114,10 +114,7 @@ module _ (k : List ℕ) (some : (stream_in k).slot ≡ 0 → ⊥) {ch : ℕ} {l 
 
 -- ---- The elements of an array of i16 that is a field
 
-each_signed : (zs : List ℤ) (us : List Val) → shadow (each ℤ (SInt w16).own_val zs us) → All (SFits w16) zs
-each_signed [] us p = All.none
-each_signed (z ∷ zs) [] p = absurd p
-each_signed (z ∷ zs) (u ∷ us) p = All.more (record { sfits = p.0.1 }) (each_signed zs us p.1)
-
-pub signed_field : (zs : List ℤ) (us : List Val) → shadow (each ℤ (SInt w16).own_val (map (λ (z : ℤ). z) zs) us) → All (SFits w16) zs
-signed_field zs us p = each_signed zs us (subst (λ (ys : List ℤ). shadow (each ℤ (SInt w16).own_val ys us)) (map-id zs) p)
+pub signed_field : (zs : List ℤ) (us : List Val) → shadow (each ℤ (SInt w16).own_val zs us) → All (SFits w16) zs
+signed_field [] us p = All.none
+signed_field (z ∷ zs) [] p = absurd p
+signed_field (z ∷ zs) (u ∷ us) p = All.more (record { sfits = p.0.1 }) (signed_field zs us p.1)

@@ -29,7 +29,7 @@ fn write_curve<W: Write>(to: &mut W, text: &[u8]) -> bool
 
 fn main(rt: HostRuntime) {
     let mut err = rt.stderr();
-    if arg_count(&rt) != 1 {
+    if arg_count(&rt, 2) != 1 {
         help(&mut err);
         return;
     }

@@ -81,7 +81,7 @@ fn run<R: Env + Files, W: Write, E: Write>(rt: &R, to: &mut W, err: &mut E, ask:
 fn main(rt: HostRuntime) {
     let mut out = rt.stdout();
     let mut err = rt.stderr();
-    let count = arg_count(&rt);
+    let count = arg_count(&rt, 5);
     if count == 3 {
         run(&rt, &mut out, &mut err, Ask::All);
         return;

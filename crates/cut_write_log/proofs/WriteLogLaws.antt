@@ -9,7 +9,6 @@ use lib.ListN.{length, take, drop, set, length-append, length-drop, length-set, 
 use lib.Seq.{take-suc-set, length-take-le, take-append-le, drop-append-le, take_at, drop_at, drop-drop}
 use lib.Dec.{ltb, leb}
 use borrow.Author.Tests.{lt-ltb, le-ltb, le-leb, lt-leb, ltb-true, leb-true}
-use Rattle.layout.specs.Choice.{◌and◌}
 use Rattle.layout.specs.Lists.{sum, put}
 use Rattle.layout.specs.Puts.{put_at}
 use Rattle.layout.proofs.Cases.{by_cases, and_true}

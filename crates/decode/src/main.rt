@@ -136,7 +136,7 @@ fn main(rt: HostRuntime) {
         help(&mut err);
         return;
     }
-    if arg_count(&rt) != 3 {
+    if arg_count(&rt, 4) != 3 {
         help(&mut err);
         return;
     }

@@ -135,7 +135,7 @@ fn main(rt: HostRuntime) {
         help(&mut err);
         return;
     }
-    if arg_count(&rt) != 2 {
+    if arg_count(&rt, 3) != 2 {
         help(&mut err);
         return;
     }

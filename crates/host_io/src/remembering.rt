@@ -2,6 +2,7 @@
 ghost use Rattle.std.specs.Prelude.{◌≡◌, Some, None, IfErr, IfOk};
 ghost use Rattle.std.specs.Io.{WritesAtMost};
 ghost use Rattle.std.specs.Io.KnownBytes.{WriteAppends};
+ghost use Rattle.host_io.specs.Partly.{Grows};
 
 use crate::host::fail;
 use std::io;
@@ -22,7 +23,9 @@ impl<W: Write> Remembering<W> {
     }
 
     // Writes a line: what failed, as the caller names it, a colon and why the last write that failed did.
-    pub fn tell<E: Write>(&self, err: &mut E, what: &[u8]) {
+    pub fn tell<E: Write>(&self, err: &mut E, what: &[u8])
+        ensures { Grows (E.contents err.old) (E.contents err.new) }
+    {
         match self.error {
             Some(error) => fail(err, what, error),
             None => fail(err, what, io::Error::from(ErrorKind::WriteZero)),

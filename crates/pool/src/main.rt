@@ -169,7 +169,7 @@ fn answer_all<R: Read, W: Write, E: Write>(input: &mut R, to: &mut Remembering<W
 
 fn main(rt: HostRuntime) {
     let mut err = rt.stderr();
-    if arg_count(&rt) != 1 {
+    if arg_count(&rt, 2) != 1 {
         help(&mut err);
         return;
     }

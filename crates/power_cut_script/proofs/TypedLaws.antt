@@ -23,7 +23,7 @@ use Rattle.script_lines.specs.Lines.{is_kind, line_kind, decimal_at, small_at, b
 use Rattle.script_lines.specs.declared.kinds.Kind.{Kind}
 use Rattle.script_lines.specs.declared.kinds.Kind.TheVariants as Kinds
 use Rattle.script_groups.specs.Order.{said, sides_in, lent_by, opening_from}
-use Rattle.writer.specs.Loading.{cue, push, finish, Push}
+use Rattle.writer.specs.Loading.{cue, push, finish}
 use Rattle.writer.specs.Typed.{TypedCue, TypedBlock, TypedSide, TypedPush, Typed}
 use Rattle.layout.proofs.ListLaws.{all_append}
 use Rattle.cut_logged_calls.specs.LoggedCalls.{lent_of}

@@ -6,8 +6,6 @@ use mathlib.Core.List.{List, [], ◌∷◌}
 use native.Mathlib.Omega.{arith}
 use lib.ListN.{length, take, drop, get_or, length-drop, drop_of_length-le}
 use lib.Dec.{eqb}
-use denote.Enum.Declared.{tag_of}
-use types.Run.{OneOf}
 use borrow.Author.Tests.{eq-eqb, ne_eqb}
 use Rattle.layout.specs.Lists.{filter, first_index}
 use Rattle.script_words.specs.Texts.{word_count, line_of, lines_after, lines_of, uncommented}
@@ -15,30 +13,22 @@ use Rattle.script_words.proofs.TextLaws.{lines_none, lines_next}
 use Rattle.script_lines.specs.Lines.{is_kind, line_kind, lent_line}
 use Rattle.script_lines.specs.declared.kinds.Kind.{Kind}
 use Rattle.script_lines.specs.declared.lines.LentLine.{LentLine}
-use Rattle.script_lines.specs.contracts.kinds.Kind.{the_type}
 use Rattle.script_lines.proofs.LineLaws.{not_kind}
 use Rattle.script_lines.specs.declared.kinds.Kind.TheVariants as Kinds
 use Rattle.script_groups.specs.Order.{said, sides_in, lent_by, opening_from, Said, Starts}
 
 -- ---- Kinds
 
--- The places of all kinds but BEGN's, and of all but LENT's.
-abbrev no_begins : List ℕ
-no_begins = 0 ∷ 2 ∷ 3 ∷ 4 ∷ 5 ∷ 6 ∷ 7 ∷ 8 ∷ 9 ∷ []
-
-abbrev no_lents : List ℕ
-no_lents = 0 ∷ 1 ∷ 2 ∷ 3 ∷ 4 ∷ 5 ∷ 6 ∷ 7 ∷ 9 ∷ []
-
-pub no_begin : (k : Kind) → OneOf no_begins (tag_of the_type k) → is_kind k Kinds.Begin ≡ false
-no_begin k o = not_kind no_begins Kinds.Begin k _ o
+pub no_begin : (k : Kind) → (k ≡ Kinds.Begin → ⊥) → is_kind k Kinds.Begin ≡ false
+no_begin k h = not_kind k Kinds.Begin h
 
 pub lent_set : {k : Kind} (l : List ℕ) (n : ℕ) {r : LentLine} → k ≡ Kinds.Lent → r ≡ lent_line l → r.length ≡ lent_by k l n
 unfolding lent_by
 lent_set l n e r = rw (e, r)
 
-pub lent_kept : (k : Kind) (l : List ℕ) {n : ℕ} → OneOf no_lents (tag_of the_type k) → n ≡ lent_by k l n
+pub lent_kept : (k : Kind) (l : List ℕ) {n : ℕ} → (k ≡ Kinds.Lent → ⊥) → n ≡ lent_by k l n
 unfolding lent_by
-lent_kept k l o = rw (not_kind no_lents Kinds.Lent k _ o)
+lent_kept k l h = rw (not_kind k Kinds.Lent h)
 
 -- ---- The end of a text
 

@@ -1,40 +1,47 @@
 -- Tests that the code joins, and the kinds that an arm takes.
 use Prim.Native.Nat.{ℕ}
-use mathlib.Core.Path.{◌≡◌, refl, subst, ◌∙◌}
-use mathlib.Core.Bool.{false, not}
-use mathlib.Core.List.{List, [], ◌∷◌}
-use Rattle.script_lines.specs.contracts.kinds.Kind.{the_type}
-use denote.Enum.Declared.{tag_of}
+use mathlib.Core.Path.{◌≡◌, refl, ap, sym, ◌∙◌}
+use mathlib.Core.Bool.{false}
+use mathlib.Core.List.{List}
+use lib.Dec.{eqb}
+use Rattle.layout.specs.Choice.{pick}
 use borrow.Author.Tests.{ne_eqb}
-use lib.Dec.{T}
-use mir.Val.{has_key}
-use types.Run.{OneOf, miss}
 use Rattle.writer.specs.declared.CueKind.{CueKind}
 use Rattle.script_lines.specs.declared.kinds.Kind.{Kind}
 use Rattle.script_lines.specs.declared.kinds.Kind.TheVariants as Kinds
 use Rattle.script_lines.specs.Lines.{place, is_kind, cue_named, cue_said}
 
-tag_is : (k : Kind) → tag_of the_type k ≡ place k
-tag_is Kinds.Nothing = refl
-tag_is Kinds.Begin = refl
-tag_is Kinds.Point = refl
-tag_is Kinds.Loop = refl
-tag_is Kinds.Range = refl
-tag_is Kinds.Push = refl
-tag_is Kinds.Channel = refl
-tag_is Kinds.Finish = refl
-tag_is Kinds.Lent = refl
-tag_is Kinds.Unknown = refl
+-- The kind at a place.
+kind_at : ℕ → Kind
+kind_at n =
+    pick (eqb n 0) Kinds.Nothing
+    (pick (eqb n 1) Kinds.Begin
+    (pick (eqb n 2) Kinds.Point
+    (pick (eqb n 3) Kinds.Loop
+    (pick (eqb n 4) Kinds.Range
+    (pick (eqb n 5) Kinds.Push
+    (pick (eqb n 6) Kinds.Channel
+    (pick (eqb n 7) Kinds.Finish
+    (pick (eqb n 8) Kinds.Lent
+    Kinds.Unknown))))))))
 
--- A kind that is one of others.
-pub not_kind : (ks : List ℕ) (m k : Kind) → T (not (has_key ks (place m))) → OneOf ks (tag_of the_type k) → is_kind k m ≡ false
-not_kind ks m k h o =
-    ne_eqb (place k) (place m) (λ e. miss ks (place m) h (subst (λ (n : ℕ). OneOf ks n) (tag_is k ∙ e) o))
+at_place : (k : Kind) → kind_at (place k) ≡ k
+unfolding kind_at
+at_place Kinds.Nothing = refl
+at_place Kinds.Begin = refl
+at_place Kinds.Point = refl
+at_place Kinds.Loop = refl
+at_place Kinds.Range = refl
+at_place Kinds.Push = refl
+at_place Kinds.Channel = refl
+at_place Kinds.Finish = refl
+at_place Kinds.Lent = refl
+at_place Kinds.Unknown = refl
 
--- The places of all kinds but loops and ranges.
-abbrev points : List ℕ
-points = 0 ∷ 1 ∷ 2 ∷ 5 ∷ 6 ∷ 7 ∷ 8 ∷ 9 ∷ []
+-- A kind that is not another.
+pub not_kind : (k m : Kind) → (k ≡ m → ⊥) → is_kind k m ≡ false
+not_kind k m h = ne_eqb (place k) (place m) (λ e. h (sym (at_place k) ∙ ap kind_at e ∙ at_place m))
 
-pub point-line : (l : List ℕ) (k : Kind) → OneOf points (tag_of the_type k) → cue_named l CueKind.Point 2 ≡ cue_said l k
+pub point-line : (l : List ℕ) (k : Kind) → (k ≡ Kinds.Range → ⊥) → (k ≡ Kinds.Loop → ⊥) → cue_named l CueKind.Point 2 ≡ cue_said l k
 unfolding cue_said
-point-line l k o = rw (not_kind points Kinds.Range k _ o, not_kind points Kinds.Loop k _ o)
+point-line l k h i = rw (not_kind k Kinds.Range h, not_kind k Kinds.Loop i)

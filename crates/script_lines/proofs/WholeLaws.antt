@@ -2,11 +2,9 @@
 use Prim.Native.Nat.{ℕ, suc, ◌+◌, ◌≤◌, ◌<◌}
 use mathlib.Core.Path.{◌≡◌, refl, sym, ◌∙◌}
 use mathlib.Core.Bool.{Bool, true, false}
-use mathlib.Core.List.{List, [], ◌∷◌}
+use mathlib.Core.List.{List}
 use native.Mathlib.Omega.{arith}
 use native.Mathlib.Numerals.{add-one}
-use denote.Enum.Declared.{tag_of}
-use types.Run.{OneOf}
 use borrow.Author.Tests.{eq-eqb, ne_eqb, lt-ltb, le-ltb}
 use lib.Dec.{eqb}
 use lib.ListN.{length, drop, length-drop, drop_of_length-le}
@@ -18,48 +16,35 @@ use Rattle.script_lines.specs.declared.kinds.Kind.TheVariants as Kinds
 use Rattle.script_lines.specs.declared.whole.Due.{Due}
 use Rattle.script_lines.specs.Lines.{line_kind}
 use Rattle.script_lines.specs.Whole.{due, says_all, after_call, after_channel, after_kind, after_line, wrong_from, wrong_line}
-use Rattle.script_lines.specs.contracts.kinds.Kind.{the_type}
 use Rattle.script_lines.proofs.LineLaws.{not_kind}
 
 -- ---- A line
 
--- The places of all kinds but Begin, Push, Channel and Lent.
-abbrev calls : List ℕ
-calls = 0 ∷ 2 ∷ 3 ∷ 4 ∷ 7 ∷ 9 ∷ []
-
-pub call_plain : (l : List ℕ) (k : Kind) (b : Bool) → OneOf calls (tag_of the_type k) → due b b 0 ≡ after_call l k b
+pub call_plain : (l : List ℕ) (k : Kind) (b : Bool)
+    → (k ≡ Kinds.Begin → ⊥) → (k ≡ Kinds.Push → ⊥) → (k ≡ Kinds.Lent → ⊥) → (k ≡ Kinds.Channel → ⊥) → due b b 0 ≡ after_call l k b
 unfolding after_call
-call_plain l k b o =
-    rw (not_kind calls Kinds.Begin k _ o, not_kind calls Kinds.Push k _ o, not_kind calls Kinds.Lent k _ o, not_kind calls Kinds.Channel k _ o)
+call_plain l k b f g h i = rw (not_kind k Kinds.Begin f, not_kind k Kinds.Push g, not_kind k Kinds.Lent h, not_kind k Kinds.Channel i)
 
--- The places of all kinds but Channel.
-abbrev others : List ℕ
-others = 0 ∷ 1 ∷ 2 ∷ 3 ∷ 4 ∷ 5 ∷ 7 ∷ 8 ∷ 9 ∷ []
-
-pub no_channel_lem : (k : Kind) (n : ℕ) → OneOf others (tag_of the_type k) → due false true n ≡ after_channel k n
-no_channel_lem k n o = rw (not_kind others Kinds.Channel k _ o)
-
--- The places of all kinds but Nothing.
-abbrev somes : List ℕ
-somes = 1 ∷ 2 ∷ 3 ∷ 4 ∷ 5 ∷ 6 ∷ 7 ∷ 8 ∷ 9 ∷ []
+pub no_channel_lem : (k : Kind) (n : ℕ) → (k ≡ Kinds.Channel → ⊥) → due false true n ≡ after_channel k n
+no_channel_lem k n h = rw (not_kind k Kinds.Channel h)
 
 module _ (l : List ℕ) (d : Due) {k : Kind} (e : k ≡ line_kind l) where
   pub line-nothing : k ≡ Kinds.Nothing → d ≡ after_line l d
   unfolding after_line after_kind
   line-nothing f = rw (← e, f)
 
-  module _ (o : OneOf somes (tag_of the_type k)) where
+  module _ (o : k ≡ Kinds.Nothing → ⊥) where
     pub line_unsaid : says_all l k ≡ false → due false d.begun d.channels ≡ after_line l d
     unfolding after_line after_kind
-    line_unsaid f = rw (← e, not_kind somes Kinds.Nothing k _ o, f)
+    line_unsaid f = rw (← e, not_kind k Kinds.Nothing o, f)
 
     pub line-channel : says_all l k ≡ true → 0 < d.channels → after_channel k d.channels ≡ after_line l d
     unfolding after_line after_kind
-    line-channel f h = rw (← e, not_kind somes Kinds.Nothing k _ o, f, lt-ltb 0 d.channels h)
+    line-channel f h = rw (← e, not_kind k Kinds.Nothing o, f, lt-ltb 0 d.channels h)
 
     pub line_call : says_all l k ≡ true → d.channels ≤ 0 → after_call l k d.begun ≡ after_line l d
     unfolding after_line after_kind
-    line_call f h = rw (← e, not_kind somes Kinds.Nothing k _ o, f, le-ltb 0 d.channels h)
+    line_call f h = rw (← e, not_kind k Kinds.Nothing o, f, le-ltb 0 d.channels h)
 
 -- ---- The lines of a script
 

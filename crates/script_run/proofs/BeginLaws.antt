@@ -13,7 +13,7 @@ use Rattle.script_lines.specs.Lines.{begin_line}
 use Rattle.script_lines.specs.declared.lines.BeginLine.{BeginLine}
 use Rattle.script_groups.specs.Order.{Starts}
 use Rattle.script_groups.specs.declared.Start.{Start}
-use Rattle.writer.specs.Loading.{refused, accepted, begin_refusal}
+use Rattle.writer.specs.Loading.{accepted, begin_refusal}
 use Rattle.writer.specs.Calls.{Outcome, places_in, begin_of, answer_of}
 use Rattle.writer.specs.declared.Reply.{Reply}
 use Rattle.writer.specs.declared.Reply.TheVariants.{Refused, NoWrite, OneWrite, ThreeWrites}

@@ -1,15 +1,14 @@
 -- The call of a line.
 use Prim.Native.Nat.{ℕ, ◌+◌, ◌≤◌}
 use mathlib.Core.Path.{◌≡◌, refl, ap, sym, ◌∙◌}
-use mathlib.Core.Bool.{true}
+use mathlib.Core.Bool.{true, false}
 use mathlib.Core.List.{List, [], ◌∷◌}
 use native.Mathlib.Omega.{arith}
 use lib.ListN.{length, take, drop, get_or, length-take, length-drop}
 use lib.Seq.{take_at}
 use lib.Dec.{eqb, leb}
 use borrow.Author.Tests.{le-leb}
-use denote.Enum.Declared.{tag_of}
-use types.Run.{OneOf, miss}
+use mathlib.Core.Logic.{◌⊎◌, inl, inr}
 use Rattle.layout.specs.Choice.{pick, ◌or◌}
 use Rattle.layout.specs.Puts.{put_at}
 use Rattle.layout.proofs.Cases.{by_cases}
@@ -23,7 +22,6 @@ use Rattle.script_lines.specs.declared.kinds.Kind.{Kind}
 use Rattle.script_lines.specs.declared.kinds.Kind.TheVariants as Kinds
 use Rattle.script_lines.specs.declared.lines.PushLine.{PushLine}
 use Rattle.script_lines.specs.declared.channels.ChannelLine.{ChannelLine}
-use Rattle.script_lines.specs.contracts.kinds.Kind.{the_type}
 use Rattle.script_lines.proofs.LineLaws.{not_kind}
 use Rattle.script_groups.specs.Order.{sides_in}
 use Rattle.writer.specs.Loading.{Call, cue, push, finish, cue_refusal, push_args}
@@ -106,24 +104,14 @@ module _ {w : HpsWriter} where
 
 -- ---- By kinds
 
-abbrev cues : List ℕ
-cues = 2 ∷ 3 ∷ 4 ∷ []
+-- A point, a loop or a range.
+abbrev Cue-Kind : Kind → Type 0
+Cue-Kind k = (k ≡ Kinds.Point) ⊎ ((k ≡ Kinds.Loop) ⊎ (k ≡ Kinds.Range))
 
-a_cue : (k : Kind) → OneOf cues (tag_of the_type k) → is_kind k Kinds.Point or is_kind k Kinds.Loop or is_kind k Kinds.Range ≡ true
-a_cue Kinds.Nothing o = absurd (miss cues 0 _ o)
-a_cue Kinds.Begin o = absurd (miss cues 1 _ o)
-a_cue Kinds.Point o = refl
-a_cue Kinds.Loop o = refl
-a_cue Kinds.Range o = refl
-a_cue Kinds.Push o = absurd (miss cues 5 _ o)
-a_cue Kinds.Channel o = absurd (miss cues 6 _ o)
-a_cue Kinds.Finish o = absurd (miss cues 7 _ o)
-a_cue Kinds.Lent o = absurd (miss cues 8 _ o)
-a_cue Kinds.Unknown o = absurd (miss cues 9 _ o)
-
--- The kinds that make no call here.
-abbrev silent : List ℕ
-silent = 0 ∷ 1 ∷ 6 ∷ 8 ∷ 9 ∷ []
+a_cue : (k : Kind) → Cue-Kind k → (is_kind k Kinds.Push ≡ false) × ((is_kind k Kinds.Finish ≡ false) × (is_kind k Kinds.Point or is_kind k Kinds.Loop or is_kind k Kinds.Range ≡ true))
+a_cue k (inl e) = rw e (refl, (refl, refl))
+a_cue k (inr (inl e)) = rw e (refl, (refl, refl))
+a_cue k (inr (inr e)) = rw e (refl, (refl, refl))
 
 module _ (k : Kind) {w : HpsWriter} {g : Logging} {m : Made} {after : List ℕ} (l : List ℕ) (n : ℕ) (ls : List (List ℕ)) where
   pub make_push : k ≡ Kinds.Push → CallMade (push_of w (push_by l ls) (lent_of n)) g m after → Makes (call_by k l n ls) w g m after
@@ -134,11 +122,11 @@ module _ (k : Kind) {w : HpsWriter} {g : Logging} {m : Made} {after : List ℕ} 
   unfolding call_by
   make_finish e h = rw e (makes_one (finish (lent_of n)) h)
 
-  pub make_cue : OneOf cues (tag_of the_type k) → Makes (cue (cue_said l k).cue ∷ []) w g m after → Makes (call_by k l n ls) w g m after
+  pub make_cue : Cue-Kind k → Makes (cue (cue_said l k).cue ∷ []) w g m after → Makes (call_by k l n ls) w g m after
   unfolding call_by
-  make_cue o h = rw (not_kind cues Kinds.Push k _ o, not_kind cues Kinds.Finish k _ o, a_cue k o) h
+  make_cue o h = rw ((a_cue k o).0, (a_cue k o).1.0, (a_cue k o).1.1) h
 
-  pub make_none : OneOf silent (tag_of the_type k) → Makes [] w g m after → Makes (call_by k l n ls) w g m after
+  pub make_none : (k ≡ Kinds.Push → ⊥) → (k ≡ Kinds.Finish → ⊥) → (k ≡ Kinds.Point → ⊥) → (k ≡ Kinds.Loop → ⊥) → (k ≡ Kinds.Range → ⊥) → Makes [] w g m after
+      → Makes (call_by k l n ls) w g m after
   unfolding call_by
-  make_none o h =
-      rw (not_kind silent Kinds.Push k _ o, not_kind silent Kinds.Finish k _ o, not_kind silent Kinds.Point k _ o, not_kind silent Kinds.Loop k _ o, not_kind silent Kinds.Range k _ o) h
+  make_none p f o q r h = rw (not_kind k Kinds.Push p, not_kind k Kinds.Finish f, not_kind k Kinds.Point o, not_kind k Kinds.Loop q, not_kind k Kinds.Range r) h

@@ -1,0 +1,13 @@
+use Rattle.cut_logged_calls.proofs.TallyLaws.{call_made}
+use Rattle.cut_logged_calls.proofs.begin_with.Goals as goal
+
+pub returns : goal.returns
+returns c =
+    let k = c.begin-call.ensures in
+    let l = c.log_reply-log.ensures in
+    let all = call_made _ _ (k.value, (k.lent_after, k.good)) (rw c.empty_log.ensures at l.value, rw c.empty_log.ensures at l.logged_after) in
+    record {
+      value = all.0;
+      logged_after = all.1.0;
+      good = all.1.1;
+    }

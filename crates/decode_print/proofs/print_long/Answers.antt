@@ -1,0 +1,5 @@
+use Rattle.decode_print.proofs.HearingLaws.{heard-long}
+use Rattle.decode_print.proofs.print_long.Goals as goal
+
+pub returns : goal.returns
+returns g c = rw c.ended.ensures (heard-long c.print_blocks-h.ensures c.long_room-samples.ensures)

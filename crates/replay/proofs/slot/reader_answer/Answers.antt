@@ -1,0 +1,7 @@
+use Rattle.reader_channel.proofs.ChannelLaws.{read_on}
+use Rattle.replay.proofs.slot.reader_answer.Goals as goal
+
+pub returns : goal.returns
+returns c =
+    let a = c.args in
+    read_on a.s.now a.r a.channel a.position c.if-r-channel.false c.if-r-position.false c.if-position-eq0.false c.read_next.ensures

@@ -1,0 +1,6 @@
+use Rattle.script_lines.specs.Lines.{lent_line}
+use Rattle.script_lines.proofs.lines.lent_line.Goals as goal
+
+pub returns : goal.returns
+unfolding lent_line
+returns c = rw c.decimal_at-length.ensures.0

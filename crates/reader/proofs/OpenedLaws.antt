@@ -1,4 +1,5 @@
 -- An opening taken apart, and what holds of every record that it gives.
+use Rattle.std.proofs.Common.{Option}
 use Prim.Native.Nat.{ℕ, zero, suc, ◌+◌, ◌≤◌}
 use mathlib.Core.Path.{◌≡◌, refl, ap, sym, ◌∙◌}
 use mathlib.Core.Bool.{Bool, true, false}
@@ -14,7 +15,6 @@ use Rattle.layout.specs.Refusals.{wrong_count, slot_limit, block_limit}
 use Rattle.layout.specs.declared.Channel.{Channel}
 use Rattle.layout.proofs.Cases.{by_cases}
 use Rattle.reader.proofs.HeaderLaws.{header_cases}
-use Rattle.reader.specs.declared.LoopStart.{LoopStart}
 use Rattle.reader.specs.declared.HpsReader.{HpsReader}
 use Rattle.reader.specs.declared.answers.OpenReply.{OpenReply}
 use Rattle.reader.specs.declared.answers.OpenCall.{OpenCall}
@@ -35,7 +35,7 @@ module _ {r : HpsReader} where
   past_read (Read.refused n) e = not_opened n e
   past_read (Read.value a) e = (a, refl, e)
 
-  past_walk : (w : Walked) {g : List ℕ → LoopStart → Opened} → on_walk w g ≡ Opened.opened r → (os : List ℕ) × (start : LoopStart) × (w ≡ Walked.walked os start) × (g os start ≡ Opened.opened r)
+  past_walk : (w : Walked) {g : List ℕ → Option ℕ → Opened} → on_walk w g ≡ Opened.opened r → (os : List ℕ) × (start : Option ℕ) × (w ≡ Walked.walked os start) × (g os start ≡ Opened.opened r)
   past_walk (refused n) e = not_opened n e
   past_walk (walked os start) e = (os, start, refl, e)
 
@@ -49,7 +49,7 @@ pub record Parts (s : List ℕ) (r : HpsReader) : Type 0 where
   pub left : Channel
   pub right : Channel
   pub offsets : List ℕ
-  pub start : LoopStart
+  pub start : Option ℕ
   pub rate_read : field s 12 (u32_at s 8) ≡ Read.value rate
   pub count_read : field s 16 (u32_at s 12) ≡ Read.value count
   pub right_count : wrong_count count ≡ false
@@ -92,14 +92,14 @@ one_or_two n e =
 
 -- ---- The premise of the reading calls
 
-pub not_walked : {A : Type 0} (n : ℕ) (os : List ℕ) (start : LoopStart) → Walked.refused n ≡ Walked.walked os start → A
+pub not_walked : {A : Type 0} (n : ℕ) (os : List ℕ) (start : Option ℕ) → Walked.refused n ≡ Walked.walked os start → A
 not_walked n os start e = absurd (let z : ◌≡◌ {A = ℕ} 0 1 = cc in omega arith)
 
-walked_few : (m : ℕ) {here os : List ℕ} {l start : LoopStart} → length here ≤ m → Walked.walked here l ≡ Walked.walked os start → length os ≤ m
+walked_few : (m : ℕ) {here os : List ℕ} {l start : Option ℕ} → length here ≤ m → Walked.walked here l ≡ Walked.walked os start → length os ≤ m
 walked_few m {here} {os} h e = let x : here ≡ os = cc in rw (← x) h
 
 -- a walk gives no more blocks than it may read
-walk_few : (n : ℕ) (s seen : List ℕ) (at : ℕ) (os : List ℕ) (start : LoopStart) → walk_from n s seen at ≡ Walked.walked os start → length os ≤ length seen + n
+walk_few : (n : ℕ) (s seen : List ℕ) (at : ℕ) (os : List ℕ) (start : Option ℕ) → walk_from n s seen at ≡ Walked.walked os start → length os ≤ length seen + n
 unfolding walk_from
 walk_few zero s seen at os start e = not_walked 5 os start e
 walk_few (suc n) s seen at os start e =

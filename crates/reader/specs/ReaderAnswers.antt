@@ -1,11 +1,9 @@
 -- What opening and its walk return: the struct or enum for each answer of the definitions, with zeros where nothing is given.
-use Rattle.std.specs.Prelude.{ℕ, List, [], ◌∷◌, ◌++◌, length, drop, replicate, eqb}
+use Rattle.std.specs.Prelude.{ℕ, List, [], ◌∷◌, ◌++◌, length, drop, replicate, eqb, Option, Some, None}
 use Rattle.layout.specs.Choice.{pick}
 use Rattle.layout.specs.Records.{no_channel}
 use Rattle.layout.specs.Refusals.{block_limit}
 use Rattle.layout.specs.declared.Channel.{Channel}
-use Rattle.reader.specs.declared.LoopStart.{LoopStart}
-use Rattle.reader.specs.declared.LoopStart.TheVariants.{None, Block}
 use Rattle.reader.specs.declared.HpsReader.{HpsReader}
 use Rattle.reader.specs.declared.answers.OpenReply.{OpenReply}
 use Rattle.reader.specs.declared.answers.OpenCall.{OpenCall}
@@ -18,7 +16,7 @@ use Rattle.reader.specs.OpeningAndReading.{Opened, Walked}
 -- The all-zero record that a refused opening gives.
 abbrev pub no_reader : HpsReader
 no_reader =
-    record { rate = 0; count = 0; channels = no_channel ∷ no_channel ∷ []; blocks = 0; offsets = replicate block_limit 0; loop_start = LoopStart.None }
+    record { rate = 0; count = 0; channels = no_channel ∷ no_channel ∷ []; blocks = 0; offsets = replicate block_limit 0; loop_start = None }
 
 abbrev pub open_call : Opened → OpenCall
 open_call (Opened.refused n) = record { reply = OpenReply.Refused n; reader = no_reader }
@@ -33,9 +31,9 @@ in_use n l r = l ∷ pick (eqb n 2) r no_channel ∷ []
 abbrev pub no_walk : ℕ → Walk
 no_walk n = record { reply = WalkReply.Refused n; count = 0 }
 
-abbrev pub walk_reply : LoopStart → WalkReply
+abbrev pub walk_reply : Option ℕ → WalkReply
 walk_reply None = WalkReply.End
-walk_reply (Block i) = WalkReply.Loop i
+walk_reply (Some i) = WalkReply.Loop i
 
 abbrev pub walk_of : Walked → Walk
 walk_of (Walked.refused n) = no_walk n

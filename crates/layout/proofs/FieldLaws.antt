@@ -7,7 +7,11 @@ use native.Mathlib.Omega.{arith}
 use lib.ListN.{length}
 use lib.Dec.{leb}
 use borrow.Author.Tests.{leb-true, leb-false, le-leb, lt-leb}
+use Rattle.std.specs.Prelude.{Result, Ok, Err}
+use Rattle.std.specs.Result.{IsErrAnd}
 use Rattle.layout.specs.Records.{Read, field}
+use Rattle.layout.specs.Answers.{number_of, says}
+use Rattle.layout.specs.declared.refusal.Refusal.{Refusal}
 use Rattle.layout.proofs.Cases.{by_cases}
 
 -- ---- A field
@@ -69,6 +73,18 @@ module _ {A : Type 0} {s : List ℕ} {past : ℕ} {a : A} where
   -- a refusal was answered: the field does not lie in the slot
   pub missed : {n : ℕ} → Read.refused n ≡ field s past a → Missed s past a n
   missed {n} e = field_refused s past a n (sym e)
+
+-- ---- Handing on
+
+-- what a `?` hands on is the error that was answered
+pub passed_on : {A E : Type 0} (r : Result A E) (e : E) → IsErrAnd r (λ x. x ≡ e) → r ≡ Err e
+passed_on (Ok a) e h = absurd h
+passed_on (Err x) e h = ap Err h
+
+-- a refused field is handed on where the fields up to a later place are read
+pub handed_on : {A B : Type 0} {s : List ℕ} {past : ℕ} {a : A} (r : Result B Refusal) (e : Refusal) → IsErrAnd r (λ x. x ≡ e)
+    → Missed s past a (number_of e) → (later : ℕ) (b : B) → past ≤ later → says r ≡ field s later b
+handed_on r e h m later b l = rw (passed_on r e h) (field_later m later b l)
 
 -- ---- The answer that a read comes to
 

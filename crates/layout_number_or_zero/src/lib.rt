@@ -1,4 +1,5 @@
 // Big-endian numbers at an offset of some bytes. A number that is not wholly there reads as 0.
+// One function for each width: a generic one would take a trait with an impl for each of the four definitions, and be no shorter than these.
 #![tactic(auto)]
 
 ghost use Rattle.std.specs.Prelude.{◌≡◌};

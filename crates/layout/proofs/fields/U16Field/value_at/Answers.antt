@@ -1,7 +1,0 @@
-use Rattle.std.proofs.Common.{rules}
-use Rattle.layout.specs.Records.{u16_at}
-use Rattle.layout.proofs.fields.U16Field.value_at.Goals as goal
-
-pub returns : goal.returns
-unfolding u16_at
-returns c = search rules

@@ -1,0 +1,30 @@
+use native.Mathlib.Omega.{arith}
+use Rattle.layout.proofs.FieldLaws.{got, missed, passed, failed}
+use Rattle.layout_read.proofs.ReadLaws.{header_out, cues_out, header_made}
+use Rattle.layout_read.proofs.block.read_header.Goals as goal
+
+pub returns-in_err-size : goal.returns-in_err-size
+returns-in_err-size c = header_out _ _ _ _ c.from_residual.ensures.1 (missed c.in_err-size.ensures) (omega arith)
+
+pub returns-in_err-end_address : goal.returns-in_err-end_address
+returns-in_err-end_address c = header_out _ _ _ _ c.from_residual-in_err-end_address.ensures.1 (missed c.in_err-end_address.ensures) (omega arith)
+
+pub returns-in_err-next_offset : goal.returns-in_err-next_offset
+returns-in_err-next_offset c = header_out _ _ _ _ c.from_residual-in_err-next_offset.ensures.1 (missed c.in_err-next_offset.ensures) (omega arith)
+
+pub returns-in_err-left : goal.returns-in_err-left
+returns-in_err-left c = header_out _ _ _ _ c.from_residual-in_err-left.ensures.1 (missed c.in_err-left.ensures) (omega arith)
+
+pub returns-in_err-right : goal.returns-in_err-right
+returns-in_err-right c = header_out _ _ _ _ c.from_residual-in_err-right.ensures.1 (missed c.in_err-right.ensures) (omega arith)
+
+pub returns-in_err-count : goal.returns-in_err-count
+returns-in_err-count c = header_out _ _ _ _ c.from_residual-in_err-count.ensures.1 (missed c.in_err-count.ensures) (omega arith)
+
+pub returns-then-inside : goal.returns-then-inside
+returns-then-inside c =
+    header_made _ _ (got c.in_ok-count.ensures) (got c.in_ok-size.ensures) (got c.in_ok-end_address.ensures) (got c.in_ok-next_offset.ensures)
+    (got c.in_ok-left.ensures) (got c.in_ok-right.ensures) (omega (arith, passed c.inside.ensures c.if-inside.true, c.div_ceil.ensures))
+
+pub returns-else-inside : goal.returns-else-inside
+returns-else-inside c = cues_out _ _ (got c.in_ok-count.ensures) (omega (arith, failed c.inside.ensures c.if-inside.false, c.div_ceil.ensures))

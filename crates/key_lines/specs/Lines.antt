@@ -8,7 +8,7 @@ use Rattle.reader.specs.declared.LoopStart.{LoopStart}
 use Rattle.reader.specs.declared.LoopStart.TheVariants.{None, Block}
 use Rattle.reader.specs.declared.HpsReader.{HpsReader}
 use Rattle.key_lines.specs.declared.Column.{Column}
-use Rattle.key_lines.specs.declared.Column.TheVariants.{Number, Start, Minus, Nothing}
+use Rattle.key_lines.specs.declared.Column.TheVariants.{Number, Start, Minus}
 
 -- "right-justified decimals": the last digit, before it the other digits, or blanks where there are none
 unfoldable pub column : (width n : ℕ) → List ℕ
@@ -20,7 +20,6 @@ abbrev pub column_bytes : Column → List ℕ
 column_bytes (Number n) = column 11 n
 column_bytes (Start n) = column 21 n
 column_bytes Minus = replicate 10 32 ++ (45 ∷ [])
-column_bytes Nothing = []
 
 -- columns, one after the other
 abbrev pub columns_bytes : List Column → List ℕ

@@ -6,7 +6,7 @@ ghost use Rattle.frame_pool.specs.FramePool.{share, other_decoder, new_pool, tak
 ghost use Rattle.frame_pool.specs.HighestFree.{HighestFree};
 ghost use Rattle.frame_pool.specs.FrameLists.{SixteenFrames, AlwaysServed, AtMostTen, ServedAlike, PremisesNeeded};
 
-use crate::marks::{count, highest_free, holds, mark_of};
+use crate::marks::{count, highest_free, holds};
 
 mod marks; // marks.rt: the frames' marks, counted and looked for
 
@@ -15,16 +15,19 @@ pub const FRAMES: usize = 16;
 // How many frames each decoder can count on.
 const SHARE: usize = 6;
 
-#[derive(Clone, Copy)]
+#[derive(Clone, Copy, Debug, PartialEq, Eq)]
 pub enum DecoderId {
     A,
     B,
 }
 
-// A mark for each frame: who holds it, or that it is free. A pool comes from new_pool, take and give alone.
+// Who holds a frame; of a free one nobody.
+type Mark = Option<DecoderId>;
+
+// A mark for each frame. A pool comes from new_pool, take and give alone.
 #[derive(Clone, Copy)]
 pub struct Pool {
-    marks: [u8; FRAMES],
+    marks: [Mark; FRAMES],
 }
 
 // The number of the frame, or of the refusal.
@@ -80,7 +83,7 @@ pub fn new_pool() -> Pool
     ensures { result ≡ new_pool }
 {
     Pool {
-        marks: [marks::FREE; FRAMES],
+        marks: [None; FRAMES],
     }
 }
 
@@ -89,8 +92,8 @@ pub fn take(pool: Pool, who: DecoderId) -> TakeCall
     ensures { result ≡ take_of pool who }
 {
     let mut marks = pool.marks;
-    let free = count(&marks, marks::FREE);
-    let held = count(&marks, mark_of(other(who)));
+    let free = count(&marks, None);
+    let held = count(&marks, Some(other(who)));
     if !outnumber(free, held) {
         return TakeCall {
             reply: TakeReply::Refused(32),
@@ -98,7 +101,7 @@ pub fn take(pool: Pool, who: DecoderId) -> TakeCall
         };
     }
     let frame = highest_free(&marks);
-    marks[frame] = mark_of(who);
+    marks[frame] = Some(who);
     TakeCall {
         reply: TakeReply::Frame(frame),
         pool: Pool { marks },
@@ -110,13 +113,13 @@ pub fn give(pool: Pool, who: DecoderId, frame: usize) -> GiveCall
     ensures { result ≡ give_of pool who frame }
 {
     let mut marks = pool.marks;
-    if !holds(&marks, mark_of(who), frame) {
+    if !holds(&marks, Some(who), frame) {
         return GiveCall {
             reply: GiveReply::Refused(33),
             pool,
         };
     }
-    marks[frame] = marks::FREE;
+    marks[frame] = None;
     GiveCall {
         reply: GiveReply::Given,
         pool: Pool { marks },

@@ -1,4 +1,5 @@
 -- Opening field by field: what is still to be done after each read, and what a refused one comes to.
+use Rattle.std.proofs.Common.{Option, Some, None}
 use Prim.Native.Nat.{ℕ, zero, suc, ◌-◌, ◌≤◌, ◌<◌}
 use mathlib.Core.Path.{◌≡◌, refl, sym, ap, ◌∙◌}
 use mathlib.Core.List.{List, [], ◌++◌}
@@ -11,8 +12,6 @@ use Rattle.layout.specs.Refusals.{wrong_count, block_limit, slot_limit}
 use Rattle.layout.specs.Answers.{refusal_of, magic_says}
 use Rattle.layout.specs.declared.Channel.{Channel}
 use Rattle.layout.specs.declared.answers.MagicRead.{MagicRead}
-use Rattle.reader.specs.declared.LoopStart.{LoopStart}
-use Rattle.reader.specs.declared.LoopStart.TheVariants.{None, Block}
 use Rattle.reader.specs.declared.answers.OpenReply.{OpenReply}
 use Rattle.reader.specs.declared.answers.OpenCall.{OpenCall}
 use Rattle.reader.specs.declared.answers.WalkReply.{WalkReply}
@@ -73,15 +72,15 @@ module _ {q : Read (List ℕ)} {r : MagicRead} (e : magic_says r ≡ q) where
 
 -- ---- The walk
 
-same_reply : (a b : LoopStart) → walk_reply a ≡ walk_reply b → a ≡ b
+same_reply : (a b : Option ℕ) → walk_reply a ≡ walk_reply b → a ≡ b
 same_reply None None e = refl
-same_reply None (Block j) e = absurd (let z : ◌≡◌ {A = ℕ} 0 1 = cc in omega arith)
-same_reply (Block i) None e = absurd (let z : ◌≡◌ {A = ℕ} 0 1 = cc in omega arith)
-same_reply (Block i) (Block j) e = cc
+same_reply None (Some j) e = absurd (let z : ◌≡◌ {A = ℕ} 0 1 = cc in omega arith)
+same_reply (Some i) None e = absurd (let z : ◌≡◌ {A = ℕ} 0 1 = cc in omega arith)
+same_reply (Some i) (Some j) e = cc
 
-no_reply : (n : ℕ) (b : LoopStart) → WalkReply.Refused n ≡ walk_reply b → ⊥
+no_reply : (n : ℕ) (b : Option ℕ) → WalkReply.Refused n ≡ walk_reply b → ⊥
 no_reply n None e = let z : ◌≡◌ {A = ℕ} 0 1 = cc in omega arith
-no_reply n (Block j) e = let z : ◌≡◌ {A = ℕ} 0 1 = cc in omega arith
+no_reply n (Some j) e = let z : ◌≡◌ {A = ℕ} 0 1 = cc in omega arith
 
 drop_zeros : (k n : ℕ) → ◌≡◌ {A = List ℕ} (drop k (replicate n 0)) (replicate (n - k) 0)
 drop_zeros zero n = let e : n ≡ n - 0 = omega arith in ap (λ (m : ℕ). replicate {A = ℕ} m 0) e
@@ -93,7 +92,7 @@ zeros_beyond : (os : List ℕ) (n : ℕ) → os ++ drop (length os) (replicate n
 zeros_beyond os n = ap (λ (l : List ℕ). os ++ l) (drop_zeros (length os) n)
 
 module _ (rate count : ℕ) (l r : Channel) where
-  walk_ends : (x : Walked) {w : Walk} {os : List ℕ} → w ≡ walk_of x → os ≡ walked_over (replicate block_limit 0) x → (start : LoopStart) → w.reply ≡ walk_reply start
+  walk_ends : (x : Walked) {w : Walk} {os : List ℕ} → w ≡ walk_of x → os ≡ walked_over (replicate block_limit 0) x → (start : Option ℕ) → w.reply ≡ walk_reply start
       → on_walk x (λ os start. Opened.opened (made rate count l r os start))
       ≡ Opened.opened (record { rate = rate; count = count; channels = in_use count l r; blocks = w.count; offsets = os; loop_start = start })
   unfolding made walked_over
@@ -109,7 +108,7 @@ module _ (rate count : ℕ) (l r : Channel) where
 
 module _ (s : List ℕ) (rate count : ℕ) (l r : Channel) (e : opening s ≡ at_walk s rate count l r) {w : Walk} {os : List ℕ}
     (f : (w ≡ walk_of (walk_from block_limit s [] first_block_offset)) × (os ≡ walked_over (replicate block_limit 0) (walk_from block_limit s [] first_block_offset))) where
-  pub opens_to : {cs : List Channel} → cs ≡ in_use count l r → (start : LoopStart) → w.reply ≡ walk_reply start
+  pub opens_to : {cs : List Channel} → cs ≡ in_use count l r → (start : Option ℕ) → w.reply ≡ walk_reply start
       → ◌≡◌ {A = OpenCall} (record { reply = OpenReply.Opened; reader = record { rate = rate; count = count; channels = cs; blocks = w.count; offsets = os; loop_start = start } })
       (open_call (opening s))
   opens_to g start h = rw (e ∙ walk_ends rate count l r (walk_from block_limit s [] first_block_offset) f.0 f.1 start h) (rw g)

@@ -1,4 +1,5 @@
 -- The walk's loop: its invariant, and what each way out of it answers.
+use Rattle.std.proofs.Common.{Option, Some, None}
 use Prim.Native.Nat.{ℕ, zero, suc, ◌+◌, ◌-◌, ◌≤◌, ◌<◌}
 use mathlib.Core.Path.{◌≡◌, refl, sym, ap, ◌∙◌}
 use mathlib.Core.List.{List, [], ◌∷◌, ◌++◌}
@@ -12,7 +13,6 @@ use borrow.Author.Count.{below_more}
 use Rattle.layout.specs.Lists.{first_index}
 use Rattle.layout.specs.Records.{Read, read_header, file_header_size}
 use Rattle.layout.specs.declared.BlockHeader.{BlockHeader}
-use Rattle.reader.specs.declared.LoopStart.{LoopStart}
 use Rattle.reader.specs.declared.answers.WalkReply.{WalkReply}
 use Rattle.reader.specs.declared.answers.Walk.{Walk}
 use Rattle.reader.specs.OpeningAndReading.{first_at, Walked, walk_from}
@@ -133,14 +133,14 @@ module _ {s ps offsets : List ℕ} {count current : ℕ} (w : Walking s ps offse
     at1 k l = rw is1 (over_at seen1 ps k (omega (arith, long1)))
 
     -- the loop's locals make the answer
-    made1 : (start : LoopStart) → walk_from (length ps) s [] file_header_size ≡ Walked.walked seen1 start
+    made1 : (start : Option ℕ) → walk_from (length ps) s [] file_header_size ≡ Walked.walked seen1 start
         → Walks s ps (record { reply = walk_reply start; count = count + 1 }) (set offsets count current)
     unfolding walked_over
     made1 start e = record { answer = rw (e, long1); left = rw e is1 }
 
     module _ (b : BlockHeader) (e : read_header s current ≡ Read.value b) where
       pub at_end : b.next_offset ≡ 4294967295 → Walks s ps (record { reply = WalkReply.End; count = count + 1 }) (set offsets count current)
-      at_end q = made1 LoopStart.None (more ∙ step_end _ s w.seen current b e q)
+      at_end q = made1 None (more ∙ step_end _ s w.seen current b e q)
 
       pub at-loop : (b.next_offset ≡ 4294967295 → ⊥) → (i : ℕ) → i < count + 1 → get_or (set offsets count current) i 0 ≡ b.next_offset
           → ((k : ℕ) → k < i → get_or (set offsets count current) k 0 ≡ b.next_offset → ⊥)
@@ -148,7 +148,7 @@ module _ {s ps offsets : List ℕ} {count current : ℕ} (w : Walking s ps offse
       at-loop q i l g f =
           let m : i < length seen1 = omega (arith, long1) in
           let p = found b.next_offset seen1 i m (sym (at1 i l) ∙ g) (λ k n z. f k n (at1 k (omega arith) ∙ z)) in
-          made1 (LoopStart.Block i) (more ∙ step_loop _ s w.seen current b e q i p m)
+          made1 (Some i) (more ∙ step_loop _ s w.seen current b e q i p m)
 
       pub at_next : (b.next_offset ≡ 4294967295 → ⊥) → ((k : ℕ) → k < count + 1 → get_or (set offsets count current) k 0 ≡ b.next_offset → ⊥)
           → Walking s ps (set offsets count current) (count + 1) b.next_offset

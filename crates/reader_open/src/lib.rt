@@ -14,7 +14,7 @@ use layout::{Channel, no_channel};
 use layout_read::channels::read_channel;
 use layout_read::file::read_magic;
 use reader::answers::{OpenCall, OpenReply, WalkReply};
-use reader::{HpsReader, LoopStart, no_reader};
+use reader::{HpsReader, no_reader};
 
 mod walk; // walk.rt: the walk along the chain of blocks
 
@@ -82,8 +82,8 @@ pub fn open(s: &[u8]) -> OpenCall
     let walk = walk_blocks(s, &mut offsets);
     let end = walk.reply;
     let loop_start = match end {
-        WalkReply::End => LoopStart::None,
-        WalkReply::Loop(i) => LoopStart::Block(i),
+        WalkReply::End => None,
+        WalkReply::Loop(i) => Some(i),
         WalkReply::Refused(n) => return refused(n),
     };
     let l = left.channel;

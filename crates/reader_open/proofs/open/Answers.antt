@@ -1,6 +1,6 @@
+use Rattle.std.proofs.Common.{Some, None}
 use mathlib.Core.Path.{◌≡◌, sym, ◌∙◌}
 use Rattle.layout.proofs.FieldLaws.{u32, got, missed, beside_read, beside_number}
-use Rattle.reader.specs.declared.LoopStart.{LoopStart}
 use Rattle.reader.specs.OpeningAndReading.{opening}
 use Rattle.layout.proofs.Cases.{pick_true, pick_false}
 use Rattle.reader_open.proofs.OpenLaws.{at_walk, opened_at_right, opened_at_left, at_channels, at_count, at_rate, too_long, not_long, refuses, on_value}
@@ -130,8 +130,8 @@ returns-clause-value c =
     let opened = opens_to _ _ _ _ _ (after-right (goal.at.returns-clause-value c).After-walk_blocks-walk)
     (c.walk_blocks-walk.ensures.value, c.walk_blocks-walk.ensures.offsets_after) c.in_use-channels.ensures in
     elim c.match-end.branch [
-      | in-End w ↦ rw w.loop_start-is (opened LoopStart.None w.in-End.is)
-      | in-Loop w ↦ rw w.loop_start-is (opened (LoopStart.Block w.in-Loop.i) w.in-Loop.is)
+      | in-End w ↦ rw w.loop_start-is (opened None w.in-End.is)
+      | in-Loop w ↦ rw w.loop_start-is (opened (Some w.in-Loop.i) w.in-Loop.is)
     ]
 
 pub returns-clause-readable : goal.returns-clause-readable

@@ -1,4 +1,5 @@
 -- The opening record put into lent bytes: its offsets one after the other, and its parts.
+use Rattle.std.proofs.Common.{Option}
 use Prim.Native.Nat.{ℕ, ◌+◌, ◌*◌, ◌-◌, ◌%◌, ◌≤◌, ◌<◌}
 use mathlib.Core.Path.{◌≡◌, refl, sym, ap, ◌∙◌}
 use mathlib.Core.List.{List, [], ◌∷◌, ◌++◌, append_assoc, append-nil, flat_map}
@@ -12,7 +13,6 @@ use Rattle.layout.specs.Puts.{put_at}
 use Rattle.layout.specs.Records.{be32, file_header_size}
 use Rattle.layout.proofs.Lengths.{be32-length}
 use Rattle.layout.proofs.PutLaws.{Put, put_then, put_at-none, put_at-length}
-use Rattle.reader.specs.declared.LoopStart.{LoopStart}
 use Rattle.c_opened.proofs.ReadBackLaws.{offsets_length, file-length}
 use Rattle.c_opened.specs.KeptReader.{loop_number, file_kept, offsets_kept, opened_parts, opened_size, offsets_at}
 use Rattle.layout.specs.Refusals.{block_limit}
@@ -72,7 +72,7 @@ module _ (k : List ℕ) {k' : List ℕ} (s : List ℕ) (count : ℕ) where
 
 -- ---- The record
 
-pub opened-put : (k k1 k2 k3 k4 : List ℕ) {k5 : List ℕ} (s : List ℕ) (count : ℕ) (start : LoopStart) (os : List ℕ) {number : ℕ} → length os ≤ block_limit → file_header_size ≤ length s
+pub opened-put : (k k1 k2 k3 k4 : List ℕ) {k5 : List ℕ} (s : List ℕ) (count : ℕ) (start : Option ℕ) (os : List ℕ) {number : ℕ} → length os ≤ block_limit → file_header_size ≤ length s
     → opened_size ≤ length k
     → k1 ≡ put_at k 0 (file_kept s count) → k2 ≡ put_at k1 file_header_size (be32 (length os % 4294967296)) → number ≡ loop_number start → k3 ≡ put_at k2 132 (be32 number)
     → k4 ≡ put_at k3 offsets_at (flat_map be32 os) → k5 ≡ put_at k4 (offsets_at + 4 * length os) (replicate (2048 - 4 * length os) 0) → k5 ≡ put_at k 0 (opened_parts s count (length os) start os)

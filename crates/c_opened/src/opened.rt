@@ -8,7 +8,7 @@ use layout::answers::ReadAnswer;
 use layout::limits::{BLOCK_LIMIT, FILE_HEADER_SIZE};
 use layout_number_or_zero::word;
 use layout_read::channels::read_channel;
-use reader::{HpsReader, LoopStart, no_reader};
+use reader::{HpsReader, no_reader};
 
 pub const BLOCKS_AT: usize = FILE_HEADER_SIZE;
 
@@ -22,13 +22,13 @@ pub const OPENED_SIZE: usize = OFFSETS_AT + OFFSETS_SIZE;
 
 pub const NO_LOOP: u32 = 0xFFFF_FFFF;
 
-fn loop_of(number: u32) -> LoopStart
+fn loop_of(number: u32) -> Option<usize>
     ensures { result ≡ loop_of number }
 {
     if number == NO_LOOP {
-        LoopStart::None
+        None
     } else {
-        LoopStart::Block(number as usize)
+        Some(number as usize)
     }
 }
 

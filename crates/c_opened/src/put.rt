@@ -9,16 +9,15 @@ ghost use Rattle.layout.specs.Refusals.{block_limit};
 use crate::opened::{BLOCKS_AT, LOOP_AT, NO_LOOP, OFFSETS_AT, OFFSETS_SIZE};
 use layout::limits::{CHANNEL_SIZE, FILE_HEADER_SIZE};
 use layout_put::{put_bytes, put_fill, put_u32};
-use reader::LoopStart;
 
 const SECOND_AT: usize = FILE_HEADER_SIZE - CHANNEL_SIZE;
 
-fn loop_number(start: LoopStart) -> u32
+fn loop_number(start: Option<usize>) -> u32
     ensures { result ≡ loop_number start }
 {
     match start {
-        LoopStart::None => NO_LOOP,
-        LoopStart::Block(i) => (i % 4294967296) as u32,
+        None => NO_LOOP,
+        Some(i) => (i % 4294967296) as u32,
     }
 }
 
@@ -46,7 +45,7 @@ fn put_file(kept: &mut [u8], s: &[u8], count: usize)
 }
 
 // The record of a slot that was opened, by its parts: its blocks' offsets are lent, so that none is copied on the way.
-pub fn put_opened(kept: &mut [u8], s: &[u8], count: usize, start: LoopStart, offsets: &[u32])
+pub fn put_opened(kept: &mut [u8], s: &[u8], count: usize, start: Option<usize>, offsets: &[u32])
     requires { (length offsets.now ≤ block_limit) × ((file_header_size ≤ length s.now) × (opened_size ≤ length kept.old)) }
     ensures { kept.new ≡ put_at kept.old 0 (opened_parts s.now count (length offsets.now) start offsets.now) }
 {

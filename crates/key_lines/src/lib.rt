@@ -9,7 +9,7 @@ ghost use Rattle.key_lines.specs.Lines.{stop_line, head_line, loop_column, block
 use crate::line::put_line;
 use layout::{BlockHeader, DspFormat};
 use layout_sizes::num_samples;
-use reader::{HpsReader, LoopStart};
+use reader::HpsReader;
 
 pub mod columns; // columns.rt: a column, right-justified
 pub mod line; // line.rt: a word, its columns and a newline
@@ -32,12 +32,12 @@ pub fn put_stop(out: &mut [u8], at: usize, number: u32) -> usize
 }
 
 // The loop block's index, or `-`.
-fn loop_column(start: LoopStart) -> Column
+fn loop_column(start: Option<usize>) -> Column
     ensures { result ≡ loop_column start }
 {
     match start {
-        LoopStart::None => Column::Minus,
-        LoopStart::Block(i) => Column::Number(i as u64),
+        None => Column::Minus,
+        Some(i) => Column::Number(i as u64),
     }
 }
 

@@ -1,7 +1,7 @@
 // A line's columns, put into a lent buffer: right-justified decimals, or `-`.
-ghost use Rattle.std.specs.Prelude.{◌≡◌, ◌+◌, ◌%◌};
+ghost use Rattle.std.specs.Prelude.{◌≡◌, ◌+◌, ◌%◌, length};
 ghost use Rattle.layout.specs.Puts.{put_at};
-ghost use Rattle.key_lines.specs.Lines.{column, FieldPut};
+ghost use Rattle.key_lines.specs.Lines.{column, column_bytes, FieldPut};
 
 use crate::Column;
 use layout::fields::inside;
@@ -28,6 +28,17 @@ pub fn put_column(out: &mut [u8], at: usize, width: usize, n: u64)
             }
             left /= 10;
         }
+    }
+}
+
+// How many bytes a column has.
+pub(crate) fn width(column: Column) -> usize
+    ensures { result ≡ length (column_bytes column) }
+{
+    match column {
+        Column::Number(_) => 11,
+        Column::Start(_) => 21,
+        Column::Minus => 11,
     }
 }
 

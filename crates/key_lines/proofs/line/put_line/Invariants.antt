@@ -3,4 +3,4 @@ use Rattle.key_lines.proofs.line.put_line.Given as goal
 
 abbrev pub invariant-loop-column : goal.invariant-loop-column
 invariant-loop-column l =
-    Columns l.initial.line l.columns l.line l.end l.column-index
+    Columns l.fn.out l.at l.word l.columns l.out l.end l.column-index

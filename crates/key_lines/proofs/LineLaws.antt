@@ -21,11 +21,11 @@ field_as l at b n e h k m = rw e (record { put = h; long = sym k; most = m })
 
 -- ---- Column after column
 
--- The first i of five columns are put into a line, from its fifth byte on.
+-- The first i columns, of five at most, are put into a line, from its fifth byte on.
 pub record Columns (l : List ℕ) (cs : List Column) (b : List ℕ) (end i : ℕ) : Type 0 where
   pub bytes : List ℕ
-  pub five : length cs ≡ 5
-  pub few : i ≤ 5
+  pub few : length cs ≤ 5
+  pub past : i ≤ length cs
   pub room : length l ≡ 110
   pub long : length b ≡ 110
   pub most : end ≤ 4 + 21 * i
@@ -33,21 +33,20 @@ pub record Columns (l : List ℕ) (cs : List Column) (b : List ℕ) (end i : ℕ
   pub is : b ≡ put_at l 4 bytes
   pub whole : columns_bytes cs ≡ bytes ++ columns_bytes (drop i cs)
 
-pub columns_none : {l : List ℕ} {cs : List Column} → length cs ≡ 5 → length l ≡ 110 → Columns l cs l 4 0
+pub columns_none : {l : List ℕ} {cs : List Column} → length cs ≤ 5 → length l ≡ 110 → Columns l cs l 4 0
 columns_none {l} e h =
-    record { bytes = []; five = e; few = omega arith; room = h; long = h; most = omega arith; size = refl; is = sym (put_at-none l 4); whole = refl }
+    record { bytes = []; few = e; past = omega arith; room = h; long = h; most = omega arith; size = refl; is = sym (put_at-none l 4); whole = refl }
 
 module _ {l : List ℕ} {cs : List Column} {b : List ℕ} {end i : ℕ} (p : Columns l cs b end i) where
-  pub columns_more : i < 5 → (c : List ℕ) (d : Column) (w : ℕ) → FieldPut b end (get_or cs i d) c w → Columns l cs c (end + w) (i + 1)
+  pub columns_more : i < length cs → (c : List ℕ) (d : Column) (w : ℕ) → FieldPut b end (get_or cs i d) c w → Columns l cs c (end + w) (i + 1)
   columns_more h c d w f =
-      let lt : i < length cs = omega (arith, p.five) in
       let x = column_bytes (get_or cs i d) in
-      let q = put_then (record { size = refl; is = p.is }) x (sym f.long) f.put (sym p.size) (omega (arith, p.size, p.most, p.room, f.most)) in
-      let n : columns_bytes (drop i cs) ≡ x ++ columns_bytes (drop (i + 1) cs) = rw (add-one i) (ap columns_bytes (drop-cons cs i d lt)) in
+      let q = put_then (record { size = refl; is = p.is }) x (sym f.long) f.put (sym p.size) (omega (arith, p.size, p.most, p.few, p.room, f.most)) in
+      let n : columns_bytes (drop i cs) ≡ x ++ columns_bytes (drop (i + 1) cs) = rw (add-one i) (ap columns_bytes (drop-cons cs i d h)) in
       record {
         bytes = p.bytes ++ x;
-        five = p.five;
-        few = omega arith;
+        few = p.few;
+        past = omega arith;
         room = p.room;
         long = ap length f.put ∙ put_at-length b end x ∙ p.long;
         most = omega (arith, p.most, f.most);
@@ -57,12 +56,12 @@ module _ {l : List ℕ} {cs : List Column} {b : List ℕ} {end i : ℕ} (p : Col
       }
 
   -- all are put, between the word and a newline
-  pub columns_all : (z word : List ℕ) {c : List ℕ} → 5 ≤ i → length z ≡ 110 → length word ≡ 4 → l ≡ put_at z 0 word → c ≡ put_at b end (10 ∷ [])
+  pub columns_all : (z word : List ℕ) {c : List ℕ} → length cs ≤ i → length z ≡ 110 → length word ≡ 4 → l ≡ put_at z 0 word → c ≡ put_at b end (10 ∷ [])
       → (take (end + 1) c ≡ line word cs) × (end + 1 ≡ length (line word cs))
   columns_all z word {c} h s f w g =
-      let d : drop i cs ≡ [] = drop_of_length-le cs {i = i} (omega (arith, p.five)) in
+      let d : drop i cs ≡ [] = drop_of_length-le cs {i = i} h in
       let e : columns_bytes cs ≡ p.bytes = p.whole ∙ ap (λ (x : List Column). p.bytes ++ columns_bytes x) d ∙ append-nil p.bytes in
-      let m : end ≤ 109 = omega (arith, p.most) in
+      let m : end ≤ 109 = omega (arith, p.most, p.past, p.few) in
       let q = put_then (record { size = f; is = w }) p.bytes refl p.is refl (omega (arith, p.size)) in
       let r = put_then q (10 ∷ []) refl g (omega (arith, p.size)) (omega (arith, p.size)) in
       let u = word ++ p.bytes ++ (10 ∷ []) in

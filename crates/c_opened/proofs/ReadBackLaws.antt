@@ -27,10 +27,9 @@ use Rattle.layout.proofs.AtLaws.{At, at_left, at_right, at_move, at_same, at_byt
 use Rattle.layout.proofs.ReadBack.{channel-back, none-fits}
 use Rattle.layout.proofs.PutLaws.{put_at_in, put_at-length}
 use Rattle.reader.specs.OpeningAndReading.{Walked, first_at, walk_from, Opened, made, opening, Readable}
-use Rattle.reader.specs.ReaderAnswers.{open_call}
 use Rattle.reader.specs.declared.HpsReader.{HpsReader}
 use Rattle.reader.proofs.HeaderLaws.{header_cases, header_is}
-use Rattle.reader.proofs.OpenedLaws.{Parts, opened_parts_lem, one_or_two, not_walked, and_readable}
+use Rattle.reader.proofs.OpenedLaws.{Parts, opened_parts_lem, one_or_two, not_walked, opened_readable}
 use Rattle.layout_number_or_zero.specs.NumberOrZero.{word_at}
 use Rattle.layout_number_or_zero.proofs.NumberLaws.{word_in}
 use Rattle.c_opened.specs.KeptReader.{loop_number, loop_of, file_kept, offsets_kept, opened_parts, opened_bytes, offsets_in, reader_in, ReadBack, opened_size, offsets_at}
@@ -340,7 +339,7 @@ module _ (s kept : List ℕ) (b : Bytes s) (h : file_header_size ≤ length s) (
 pub read_back : ReadBack
 read_back s kept r b e room =
     let p = opened_parts_lem s r e in
-    let ok : Readable r = (and_readable s (open_call (Opened.opened r)) (ap open_call (sym e))).1 in
+    let ok : Readable r = opened_readable s r e in
     let few : length p.offsets ≤ block_limit = rw (blocks_of p) ok.blocks in
     rw (← p.is) (back s kept b (opened-long s r e) room p few)
   where

@@ -1,6 +1,8 @@
 -- The opening record in lent bytes: the bytes that are put for it, and the record that bytes stand for.
-use Rattle.std.specs.Prelude.{ℕ, zero, suc, ◌+◌, ◌-◌, ◌*◌, ◌/◌, ◌%◌, ◌≤◌, ◌≡◌, length, take, replicate, ltb, leb, eqb, Option, Some, None}
+use Rattle.std.specs.Prelude.{ℕ, zero, suc, ◌+◌, ◌-◌, ◌*◌, ◌/◌, ◌%◌, ◌≤◌, ◌≡◌, length, take, replicate, ltb, leb, eqb, Option, Some, None, Result, Ok, Err}
 use mathlib.Core.List.{List, [], ◌∷◌, ◌++◌, flat_map}
+use Rattle.c_opened.specs.declared.failure.Failure.{Failure}
+use Rattle.c_opened.specs.declared.failure.Failure.TheVariants.{NoRecord}
 use Rattle.layout.specs.Choice.{pick, ◌and◌}
 use Rattle.layout.specs.Puts.{put_at}
 use Rattle.layout.specs.Records.{u32_at, be32, on, read_channel, file_header_size}
@@ -81,6 +83,10 @@ part_in kept from to =
       offsets = offsets_in kept from (lesser to (u32_at kept file_header_size)) block_limit 0;
       loop_start = loop_of (u32_at kept 132);
     })))))
+
+-- The same where the bytes hold a record, which is one of a channel or two.
+abbrev pub where_opened : HpsReader → Result HpsReader Failure
+where_opened r = pick (eqb r.count 0) (Err NoRecord) (Ok r)
 
 -- The whole record that bytes stand for.
 abbrev pub reader_in : List ℕ → HpsReader

@@ -1,5 +1,6 @@
 -- The opening record read from lent bytes: loop start, offsets one after the other, and the record that the reads come to.
-use Prim.Native.Nat.{ℕ, zero, suc, ◌+◌, ◌*◌, ◌%◌, ◌≤◌, ◌<◌}
+use Rattle.std.proofs.Common.{Option, Some, None}
+use Prim.Native.Nat.{ℕ, zero, suc, ◌+◌, ◌*◌, ◌%◌, ◌≤◌, ◌<◌, min}
 use mathlib.Core.Path.{◌≡◌, refl, sym, ap, ◌∙◌}
 use mathlib.Core.Logic.{◌⊎◌, inl, inr, ⊎_elim}
 use mathlib.Core.List.{List, [], ◌∷◌}
@@ -16,7 +17,6 @@ use Rattle.layout.proofs.Cases.{by_cases}
 use Rattle.reader.specs.OpeningAndReading.{Readable}
 use Rattle.reader.specs.ReaderAnswers.{no_reader}
 use Rattle.reader.specs.declared.HpsReader.{HpsReader}
-use Rattle.reader.specs.declared.LoopStart.{LoopStart}
 use Rattle.layout_number_or_zero.specs.NumberOrZero.{word_at}
 use Rattle.layout_number_or_zero.proofs.NumberLaws.{word_in}
 use Rattle.c_opened.specs.KeptReader.{loop_number, loop_of, lesser, offsets_in, part_in, opened_size, offsets_at}
@@ -25,20 +25,23 @@ use Rattle.layout.proofs.ListLaws.{zeros_at}
 
 -- ---- Loop start and lesser number
 
-pub no_loop_lem : (n : ℕ) → n ≡ 4294967295 → LoopStart.None ≡ loop_of n
+pub no_loop_lem : (n : ℕ) → n ≡ 4294967295 → None ≡ loop_of n
 no_loop_lem n h = rw (eq-eqb n 4294967295 h)
 
-pub a_loop : (n : ℕ) → (n ≡ 4294967295 → ⊥) → LoopStart.Block n ≡ loop_of n
+pub a_loop : (n : ℕ) → (n ≡ 4294967295 → ⊥) → Some n ≡ loop_of n
 a_loop n h = rw (ne_eqb n 4294967295 h)
 
-pub loop-number : (l : LoopStart) (i : ℕ) → l ≡ LoopStart.Block i → i % 4294967296 ≡ loop_number l
+pub loop-number : (l : Option ℕ) (i : ℕ) → l ≡ Some i → i % 4294967296 ≡ loop_number l
 loop-number l i e = rw e
-
-pub first-lesser : (a b : ℕ) → a < b → a ≡ lesser a b
-first-lesser a b h = rw (lt-ltb a b h)
 
 pub second-lesser : (a b : ℕ) → b ≤ a → b ≡ lesser a b
 second-lesser a b h = rw (le-ltb a b h)
+
+pub lesser_is : (a b : ℕ) → min a b ≡ lesser a b
+lesser_is a b =
+    by_cases (ltb a b)
+    (λ t. let h = ltb-true a b t in rw t (omega arith))
+    (λ t. let h = ltb-false a b t in rw t (omega arith))
 
 -- ---- Offsets
 
@@ -123,7 +126,7 @@ module _ {kept : List ℕ} {from to : ℕ} where
 
 -- ---- The record
 
-same_record : (q : HpsReader) {rate count blocks : ℕ} {cs : List Channel} {os : List ℕ} {start : LoopStart} → q.rate ≡ rate → q.count ≡ count → q.channels ≡ cs → q.blocks ≡ blocks
+same_record : (q : HpsReader) {rate count blocks : ℕ} {cs : List Channel} {os : List ℕ} {start : Option ℕ} → q.rate ≡ rate → q.count ≡ count → q.channels ≡ cs → q.blocks ≡ blocks
     → q.offsets ≡ os
     → q.loop_start ≡ start → q ≡ record { rate = rate; count = count; channels = cs; blocks = blocks; offsets = os; loop_start = start }
 same_record q e1 e2 e3 e4 e5 e6 = rw (← e1, ← e2, ← e3, ← e4, ← e5, ← e6)

@@ -8,7 +8,7 @@ use layout::answers::ReadAnswer;
 use layout::limits::{BLOCK_LIMIT, FILE_HEADER_SIZE};
 use layout_number_or_zero::word;
 use layout_read::channels::read_channel;
-use reader::{HpsReader, LoopStart, no_reader};
+use reader::{HpsReader, no_reader};
 
 pub const BLOCKS_AT: usize = FILE_HEADER_SIZE;
 
@@ -22,13 +22,13 @@ pub const OPENED_SIZE: usize = OFFSETS_AT + OFFSETS_SIZE;
 
 pub const NO_LOOP: u32 = 0xFFFF_FFFF;
 
-fn loop_of(number: u32) -> LoopStart
+fn loop_of(number: u32) -> Option<usize>
     ensures { result ≡ loop_of number }
 {
     if number == NO_LOOP {
-        LoopStart::None
+        None
     } else {
-        LoopStart::Block(number as usize)
+        Some(number as usize)
     }
 }
 
@@ -38,19 +38,10 @@ fn offsets_in(kept: &[u8], from: usize, to: usize) -> [u32; BLOCK_LIMIT]
     ensures { result ≡ offsets_in kept.now from to block_limit 0 }
 {
     let mut offsets = [0u32; BLOCK_LIMIT];
-    let mut i = from;
-    while i < to {
+    for i in from..to {
         offsets[i] = word(kept, OFFSETS_AT + 4 * i);
-        i += 1;
     }
     offsets
-}
-
-fn least(a: usize, b: usize) -> usize
-    ensures value { result ≡ lesser a b }
-    ensures upper_bound { result ≤ b }
-{
-    if a < b { a } else { b }
 }
 
 // The record that lent bytes hold, one of no channel where they hold none. Whatever they are, it meets the premise of the reading calls.
@@ -83,7 +74,7 @@ pub fn reader_in(kept: &[u8], from: usize, to: usize) -> HpsReader
     let l = left.channel;
     let r = right.channel;
     let channels = [l, r];
-    let offsets = offsets_in(kept, from, least(to, blocks));
+    let offsets = offsets_in(kept, from, to.min(blocks));
     let loop_start = loop_of(word(kept, LOOP_AT));
     HpsReader {
         rate: word(kept, 8),

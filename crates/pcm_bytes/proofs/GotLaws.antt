@@ -1,16 +1,16 @@
--- Samples got from bytes, one after the other: those that were got, and the other places as they were; and samples come back from their bytes.
+-- Samples got from bytes, one after the other; and samples come back from their bytes.
 use Prim.Native.Nat.{ℕ, zero, suc, ◌+◌, ◌*◌, ◌/◌, ◌%◌, ◌<◌}
-use mathlib.Core.Path.{◌≡◌, refl, sym, ap, ◌∙◌}
-use mathlib.Core.List.{List, [], ◌∷◌, ◌++◌}
+use mathlib.Core.Path.{◌≡◌, refl, ap}
+use mathlib.Core.List.{List, [], ◌∷◌, ◌++◌, append_assoc}
 use native.Mathlib.Nat.{not-suc-le-zero}
 use native.Mathlib.Omega.{arith}
 use native.Mathlib.Numerals.{add-one}
-use lib.ListN.{length, get_or, take, drop, set, length-set, take-append-drop}
-use lib.Seq.{take-suc, take-suc-set, drop-set-lt, drop-drop}
+use lib.ListN.{length, get_or, take, drop, set}
+use lib.Seq.{drop-cons, length-take-le, set_at, take-suc}
 use lib.IntN.{ℤ, pos}
-use mir.Syntax.{w8, w16}
-use mir.Val.{Fits, SFits, of_z, to_z}
-use mir.Facts.{to_z-of_z, sfits_to_z}
+use mir.Syntax.{w16}
+use mir.Val.{SFits, of_z, to_z}
+use mir.Facts.{to_z-of_z}
 use Rattle.layout.specs.Lists.{All, none, more}
 use Rattle.pcm_bytes.specs.Pcm.{pcm_bytes, pcm_samples}
 
@@ -51,34 +51,15 @@ pub samples_from : (i : ℕ) (bytes : List ℕ) → pcm_samples (drop (2 * i) by
 samples_from zero bytes = refl
 samples_from (suc i) bytes = let e : 2 * suc i ≡ suc (suc (2 * i)) = omega arith in rw e (from_next i (samples_from i) bytes)
 
--- it is a number of 16 bits
-pub sample-fits : {low high : ℕ} → Fits w8 low → Fits w8 high → SFits w16 (to_z w16 (low + 256 * high))
-sample-fits {low} {high} a b = sfits_to_z {n = low + 256 * high} (record { fits = omega (arith, a.fits, b.fits) })
-
--- of the samples in some bytes i are got
-pub record PcmGot (bytes : List ℕ) (before after : List ℤ) (i : ℕ) : Type 0 where
-  pub done : take i after ≡ take i (pcm_samples bytes)
-  pub rest : drop i after ≡ drop i before
-  pub size : length after ≡ length before
-
-pub got-none : (bytes : List ℕ) (samples : List ℤ) → PcmGot bytes samples samples 0
-got-none bytes samples = record { done = refl; rest = refl; size = refl }
-
-module _ {bytes : List ℕ} {before after : List ℤ} {i : ℕ} (p : PcmGot bytes before after i) where
-  pub got-more : 2 * i + 1 < length bytes → i < length after → {x : ℤ} → x ≡ to_z w16 (get_or bytes (2 * i) 0 + 256 * get_or bytes (2 * i + 1) 0)
-      → PcmGot bytes before (set after i x) (i + 1)
-  got-more h l {x} e =
-      let m : i < length (pcm_samples bytes) = omega (arith, samples_length bytes) in
-      let o : x ≡ get_or (pcm_samples bytes) i (pos 0) = e ∙ sym (sample-at bytes i h) in
-      record {
-        done =
-            rw (add-one i, take-suc-set after i x l, take-suc (pcm_samples bytes) i (pos 0) m, p.done, o);
-        rest = drop-set-lt (i + 1) after i x (omega arith) ∙ sym (drop-drop 1 i after) ∙ ap (drop 1) p.rest ∙ drop-drop 1 i before;
-        size = length-set after i x ∙ p.size;
-      }
-
-  pub got-all : after ≡ take i (pcm_samples bytes) ++ drop i before
-  got-all = sym (take-append-drop i after) ∙ ap (λ (l : List ℤ). l ++ drop i after) p.done ∙ ap (λ (l : List ℤ). take i (pcm_samples bytes) ++ l) p.rest
+-- one more sample, in the place after those of the first i
+pub got_more : (bytes : List ℕ) (before : List ℤ) (i : ℕ) {part : List ℤ} {x : ℤ} → i < length before → 2 * i + 1 < length bytes
+    → part ≡ take i (pcm_samples bytes) ++ drop i before
+    → x ≡ to_z w16 (get_or bytes (2 * i) 0 + 256 * get_or bytes (2 * i + 1) 0)
+    → set part i x ≡ take (i + 1) (pcm_samples bytes) ++ drop (i + 1) before
+got_more bytes before i {part} {x} lt h e v =
+    let m : i < length (pcm_samples bytes) = omega (arith, samples_length bytes) in
+    let long : length (take i (pcm_samples bytes)) ≡ i = length-take-le i (pcm_samples bytes) (omega arith) in
+    rw (e, drop-cons before i (pos 0), set_at _ _ _ x i long, v, ← sample-at bytes i h, add-one i, take-suc (pcm_samples bytes) i (pos 0) m) (simp append_assoc)
 
 pub samples_back : (xs : List ℤ) → All (SFits w16) xs → pcm_samples (pcm_bytes xs) ≡ xs
 unfolding pcm_bytes pcm_samples

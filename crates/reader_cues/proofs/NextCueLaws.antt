@@ -1,12 +1,11 @@
 -- The loop of the cue call: its invariant, and what each way out of it answers.
-use Rattle.std.proofs.Common.{◌≡◌, ℕ, ◌+◌, ◌*◌, ◌%◌, ◌^◌, ◌<◌, ◌≤◌, min, Bool, true, false, ltb, List, [], ◌∷◌, length, sym, refl, ap, ◌∙◌, arith, w64, of_z}
+use Rattle.std.proofs.Common.{◌≡◌, ℕ, ◌+◌, ◌*◌, ◌%◌, ◌^◌, ◌<◌, ◌≤◌, min, Bool, true, false, ltb, List, [], ◌∷◌, length, sym, refl, ap, ◌∙◌, arith, w64, of_z, Option}
 use Rattle.layout.specs.Choice.{pick, ◌and◌}
 use Rattle.layout.specs.Records.{Read, on, field, read_header, cue_at, length_in, num_samples}
 use Rattle.layout.specs.declared.BlockHeader.{BlockHeader}
 use Rattle.layout.specs.declared.CuePoint.{CuePoint}
 use Rattle.layout.proofs.FieldLaws.{Got, field-inside}
 use Rattle.layout.specs.declared.DspFormat.{DspFormat}
-use Rattle.reader.specs.declared.LoopStart.{LoopStart}
 use Rattle.reader.specs.declared.HpsReader.{HpsReader}
 use Rattle.reader.specs.declared.CueIterator.{CueIterator}
 use Rattle.reader_cues.specs.declared.CueReply.{CueReply}
@@ -100,6 +99,6 @@ module _ (s : List ℕ) (r : HpsReader) (f : DspFormat) (c : CueIterator) (e : (
   unfolding cue_step
   step_with = same_from c.due (offsets_from r c.block) c.block c.place c.base
 
-pub step_of_parts : (s os : List ℕ) (n : ℕ) (l : LoopStart) (f : DspFormat) (c : CueIterator) {q : CueCall} → q ≡ cue_call (cue_step s (record_with os n l f) c)
+pub step_of_parts : (s os : List ℕ) (n : ℕ) (l : Option ℕ) (f : DspFormat) (c : CueIterator) {q : CueCall} → q ≡ cue_call (cue_step s (record_with os n l f) c)
     → (r : HpsReader) → PartsOf r os n l f → q ≡ cue_call (cue_step s r c)
 step_of_parts s os n l f c e r p = (rw (← p.offsets, ← p.blocks, ← p.start) at e) ∙ ap cue_call (step_with s r f c p.format)

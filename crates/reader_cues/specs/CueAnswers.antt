@@ -1,8 +1,7 @@
 -- What the cue call returns: the struct and the enum for each answer of the definitions.
-use Rattle.std.specs.Prelude.{◌≡◌, ℕ, false, List, [], ◌∷◌, length, replicate, pos}
+use Rattle.std.specs.Prelude.{◌≡◌, ℕ, false, List, [], ◌∷◌, length, replicate, pos, Option}
 use Rattle.layout.specs.declared.DspFormat.{DspFormat}
 use Rattle.reader.specs.declared.HpsReader.{HpsReader}
-use Rattle.reader.specs.declared.LoopStart.{LoopStart}
 use Rattle.reader.specs.OpeningAndReading.{Readable, channel_in}
 use Rattle.layout.specs.Records.{Read, zero_context}
 use Rattle.layout.specs.declared.CuePoint.{CuePoint}
@@ -30,7 +29,7 @@ point_read b (Read.refused n) = CueReply.Refused n
 point_read b (Read.value p) = cue_reply (point_of b p)
 
 -- What a cue call looks at of an opening record: its offsets, its count of blocks, its loop start and channel 0's format. A record with these parts and zeros.
-abbrev pub record_with : (offsets : List ℕ) (blocks : ℕ) → LoopStart → DspFormat → HpsReader
+abbrev pub record_with : (offsets : List ℕ) (blocks : ℕ) → Option ℕ → DspFormat → HpsReader
 record_with os n l f = record {
   rate = 0;
   count = 0;
@@ -50,7 +49,7 @@ record_with os n l f = record {
 }
 
 -- A record with these parts.
-pub record PartsOf (r : HpsReader) (os : List ℕ) (n : ℕ) (l : LoopStart) (f : DspFormat) : Type 0 where
+pub record PartsOf (r : HpsReader) (os : List ℕ) (n : ℕ) (l : Option ℕ) (f : DspFormat) : Type 0 where
   pub readable : Readable r
   pub two : length r.channels ≡ 2
   pub table : length r.offsets ≡ block_limit

@@ -15,14 +15,14 @@ use layout::limits::{BLOCK_HEADER_SIZE, CUE_POINT_SIZE};
 use layout::{DspFormat, least};
 use layout_read::block::{read_cue, read_header};
 use layout_sizes::num_samples;
-use reader::{CueIterator, HpsReader, LoopStart};
+use reader::{CueIterator, HpsReader};
 
-fn is_looped(start: LoopStart) -> bool
+fn is_looped(start: Option<usize>) -> bool
     ensures { result ≡ looped start }
 {
     match start {
-        LoopStart::None => false,
-        LoopStart::Block(_) => true,
+        None => false,
+        Some(_) => true,
     }
 }
 
@@ -38,13 +38,13 @@ pub fn first_cursor(r: HpsReader) -> CueIterator
     }
 }
 
-fn loop_here(due: bool, start: LoopStart, block: usize) -> bool
+fn loop_here(due: bool, start: Option<usize>, block: usize) -> bool
     ensures { result ≡ due and loop_here start block }
 {
     if due {
         match start {
-            LoopStart::None => false,
-            LoopStart::Block(i) => block == i,
+            None => false,
+            Some(i) => block == i,
         }
     } else {
         false
@@ -114,7 +114,7 @@ pub fn cue_from(
     s: &[u8],
     offsets: &[u32],
     blocks: usize,
-    start: LoopStart,
+    start: Option<usize>,
     format: DspFormat,
     c: CueIterator,
 ) -> CueCall

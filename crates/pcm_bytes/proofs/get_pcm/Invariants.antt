@@ -1,11 +1,6 @@
-use Prim.Native.Nat.{◌-◌, ◌≤◌}
-use Rattle.pcm_bytes.proofs.GotLaws.{PcmGot}
+use Rattle.std.proofs.Common.{◌≡◌, ◌++◌, take, drop}
+use Rattle.pcm_bytes.specs.Pcm.{pcm_samples}
 use Rattle.pcm_bytes.proofs.get_pcm.Given as goal
 
 abbrev pub invariant-loop-i : goal.invariant-loop-i
-invariant-loop-i l =
-    PcmGot l.bytes l.initial.samples l.samples l.i × (l.i ≤ l.count)
-
-abbrev pub decreases-loop-i : goal.decreases-loop-i
-decreases-loop-i l =
-    l.count - l.i
+invariant-loop-i l = l.x-items ≡ take l.i (pcm_samples l.bytes) ++ drop l.i l.initial.x-items

@@ -1,6 +1,6 @@
 -- The opening record read from lent bytes: loop start, offsets one after the other, and the record that the reads come to.
 use Rattle.std.proofs.Common.{Option, Some, None}
-use Prim.Native.Nat.{ℕ, zero, suc, ◌+◌, ◌*◌, ◌%◌, ◌≤◌, ◌<◌}
+use Prim.Native.Nat.{ℕ, zero, suc, ◌+◌, ◌*◌, ◌%◌, ◌≤◌, ◌<◌, min}
 use mathlib.Core.Path.{◌≡◌, refl, sym, ap, ◌∙◌}
 use mathlib.Core.Logic.{◌⊎◌, inl, inr, ⊎_elim}
 use mathlib.Core.List.{List, [], ◌∷◌}
@@ -34,11 +34,14 @@ a_loop n h = rw (ne_eqb n 4294967295 h)
 pub loop-number : (l : Option ℕ) (i : ℕ) → l ≡ Some i → i % 4294967296 ≡ loop_number l
 loop-number l i e = rw e
 
-pub first-lesser : (a b : ℕ) → a < b → a ≡ lesser a b
-first-lesser a b h = rw (lt-ltb a b h)
-
 pub second-lesser : (a b : ℕ) → b ≤ a → b ≡ lesser a b
 second-lesser a b h = rw (le-ltb a b h)
+
+pub lesser_is : (a b : ℕ) → min a b ≡ lesser a b
+lesser_is a b =
+    by_cases (ltb a b)
+    (λ t. let h = ltb-true a b t in rw t (omega arith))
+    (λ t. let h = ltb-false a b t in rw t (omega arith))
 
 -- ---- Offsets
 

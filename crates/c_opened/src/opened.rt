@@ -38,19 +38,10 @@ fn offsets_in(kept: &[u8], from: usize, to: usize) -> [u32; BLOCK_LIMIT]
     ensures { result ≡ offsets_in kept.now from to block_limit 0 }
 {
     let mut offsets = [0u32; BLOCK_LIMIT];
-    let mut i = from;
-    while i < to {
+    for i in from..to {
         offsets[i] = word(kept, OFFSETS_AT + 4 * i);
-        i += 1;
     }
     offsets
-}
-
-fn least(a: usize, b: usize) -> usize
-    ensures value { result ≡ lesser a b }
-    ensures upper_bound { result ≤ b }
-{
-    if a < b { a } else { b }
 }
 
 // The record that lent bytes hold, one of no channel where they hold none. Whatever they are, it meets the premise of the reading calls.
@@ -83,7 +74,7 @@ pub fn reader_in(kept: &[u8], from: usize, to: usize) -> HpsReader
     let l = left.channel;
     let r = right.channel;
     let channels = [l, r];
-    let offsets = offsets_in(kept, from, least(to, blocks));
+    let offsets = offsets_in(kept, from, to.min(blocks));
     let loop_start = loop_of(word(kept, LOOP_AT));
     HpsReader {
         rate: word(kept, 8),

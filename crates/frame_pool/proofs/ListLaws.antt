@@ -1,5 +1,5 @@
 -- The statements on lists: an invariant of the numbers, and for the two lists a count that goes by the decoder's own calls alone.
-use Prim.Native.Nat.{ℕ, zero, suc, ◌+◌, ◌-◌, ◌≤◌, ◌<◌}
+use Prim.Native.Nat.{ℕ, ◌+◌, ◌-◌, ◌≤◌, ◌<◌}
 use mathlib.Core.Path.{◌≡◌, refl, sym, ap, ◌∙◌}
 use mathlib.Core.Bool.{true, false}
 use mathlib.Core.List.{List, [], ◌∷◌}
@@ -12,15 +12,13 @@ use Rattle.layout.specs.Choice.{pick}
 use Rattle.layout.specs.Lists.{All}
 use Rattle.layout.proofs.Cases.{by_cases, apart}
 use Rattle.layout.proofs.ListLaws.{all_head, all_tail}
-use Rattle.frame_pool.specs.FramePool.{frame_count, count_marked, highest_free, has_mark, Mark, same_mark, other_decoder, free_frames, held_by, lacks}
+use Rattle.frame_pool.specs.FramePool.{frame_count, count_marked, highest_free, has_mark, Mark, same_mark, other_decoder, free_frames, held_by, lacks, TakeReply, GiveReply}
 use Rattle.frame_pool.specs.FramePool.{is_free, is_held_by, serves, new_pool, take_of, give_of}
 use Rattle.frame_pool.specs.HighestFree.{HighestFree}
 use Rattle.frame_pool.specs.FrameLists.{PoolCall, after_pool_call, pool_after, OneOfThree, OwnCall, own_calls, TakeAnswer, without_frame, take_answers}
 use Rattle.frame_pool.specs.FrameLists.{give_replies, pools_along, SixteenFrames, AlwaysServed, AtMostTen, ServedAlike}
 use Rattle.frame_pool.specs.declared.DecoderId.{DecoderId}
 use Rattle.frame_pool.specs.declared.Pool.{Pool}
-use Rattle.frame_pool.specs.declared.TakeReply.{TakeReply}
-use Rattle.frame_pool.specs.declared.GiveReply.{GiveReply}
 use Rattle.frame_pool.proofs.PoolLaws.{highest-below, mark_inside, mark_outside, take_served, take_refused, give_refused, give_accepted, same_mark-true, eq-same_mark, ne-same_mark}
 use Rattle.frame_pool.proofs.SharePremises.{Given, Few}
 use Rattle.frame_pool.proofs.MoveLaws.{Took, took, gave, marked-long, highest_free_lem, highest_top}

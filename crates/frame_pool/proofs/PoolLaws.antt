@@ -1,5 +1,5 @@
 -- Counting marks and looking for the highest free frame, and the ways of a take and of a give.
-use Prim.Native.Nat.{ℕ, zero, suc, ◌+◌, ◌-◌, ◌≤◌, ◌<◌}
+use Prim.Native.Nat.{ℕ, zero, suc, ◌-◌, ◌≤◌, ◌<◌}
 use mathlib.Core.Path.{◌≡◌, refl, sym, ap, ◌∙◌}
 use mathlib.Core.Bool.{Bool, true, false, not}
 use mathlib.Core.List.{List}
@@ -13,12 +13,10 @@ use Rattle.std.specs.Prelude.{Option, Some, None, count_by, MatchOption, EachInd
 use Rattle.std.specs.Option.{unwrap_or}
 use Rattle.std.proofs.lemmas.List.Sums.{count_by_more_yes, count_by_more_no}
 use Rattle.layout.proofs.Cases.{by_cases, apart}
-use Rattle.frame_pool.specs.FramePool.{Mark, same_mark, frame_count, share, count_marked, highest_free, has_mark, other_decoder, free_frames, lacks, with_mark, is_held_by}
+use Rattle.frame_pool.specs.FramePool.{Mark, same_mark, frame_count, share, count_marked, highest_free, has_mark, other_decoder, free_frames, lacks, with_mark, is_held_by, TakeReply, TakeCall}
 use Rattle.frame_pool.specs.FramePool.{served_take, refused_take, take_of, accepted_give, refused_give, give_of}
 use Rattle.frame_pool.specs.declared.DecoderId.{DecoderId}
 use Rattle.frame_pool.specs.declared.Pool.{Pool}
-use Rattle.frame_pool.specs.declared.TakeReply.{TakeReply}
-use Rattle.frame_pool.specs.declared.TakeCall.{TakeCall}
 
 -- ---- One mark and another
 
@@ -52,8 +50,8 @@ unfolding count_marked
 counted_first m l zero h = refl
 counted_first m l (suc n) h =
     by_cases (same_mark (get_or l n None) m)
-    (λ t. rw t (omega (arith, rw add-one at (count_by_more_yes (λ x. same_mark x m) l n None (omega arith) t), counted_first m l n (omega arith))))
-    (λ t. rw t (omega (arith, rw add-one at (count_by_more_no (λ x. same_mark x m) l n None (omega arith) t), counted_first m l n (omega arith))))
+    (λ t. rw t (omega (arith, rw (add-one n) at (count_by_more_yes (λ x. same_mark x m) l n None (omega arith) t), counted_first m l n (omega arith))))
+    (λ t. rw t (omega (arith, rw (add-one n) at (count_by_more_no (λ x. same_mark x m) l n None (omega arith) t), counted_first m l n (omega arith))))
 
 -- all of them, by what the chain gives
 pub counted : (m : Mark) (l : List Mark) {n : ℕ} → length l ≡ frame_count → n ≡ count_by (λ x. same_mark x m) l → n ≡ count_marked frame_count m l

@@ -2,11 +2,9 @@
 use Rattle.std.specs.Prelude.{ℕ, ◌+◌, ◌<◌, ◌≤◌, ◌≡◌, Bool, true, false, List, [], ◌∷◌, ◌++◌, replicate}
 use Rattle.layout.specs.Choice.{pick}
 use Rattle.layout.specs.Lists.{All}
-use Rattle.frame_pool.specs.FramePool.{frame_count, share, same_decoder, other_decoder, free_frames, held_by, is_free, is_held_by, new_pool, take_of, give_of}
+use Rattle.frame_pool.specs.FramePool.{frame_count, share, same_decoder, other_decoder, free_frames, held_by, is_free, is_held_by, new_pool, take_of, give_of, TakeReply, GiveReply}
 use Rattle.frame_pool.specs.declared.DecoderId.{DecoderId}
 use Rattle.frame_pool.specs.declared.Pool.{Pool}
-use Rattle.frame_pool.specs.declared.TakeReply.{TakeReply}
-use Rattle.frame_pool.specs.declared.GiveReply.{GiveReply}
 
 -- ---- "list of takes and gives"
 

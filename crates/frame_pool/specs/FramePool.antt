@@ -1,12 +1,11 @@
 -- Two decoders on one frame pool (document 02, Card 4): who holds what, a take, a give.
-use Rattle.std.specs.Prelude.{ℕ, zero, suc, ◌+◌, ◌-◌, Bool, true, false, List, Option, Some, None, get_or, set, replicate, ltb}
+use Rattle.std.specs.Prelude.{ℕ, zero, suc, ◌+◌, ◌-◌, Bool, true, false, List, Option, Some, None, Result, Ok, Err, get_or, set, replicate, ltb}
 use Rattle.layout.specs.Choice.{pick, ◌and◌}
+use Rattle.layout.specs.Answers.{number_of}
+use Rattle.layout.specs.declared.refusal.Refusal.{Refusal}
 use Rattle.frame_pool.specs.declared.DecoderId.{DecoderId}
 use Rattle.frame_pool.specs.declared.Pool.{Pool}
-use Rattle.frame_pool.specs.declared.TakeReply.{TakeReply}
-use Rattle.frame_pool.specs.declared.GiveReply.{GiveReply}
-use Rattle.frame_pool.specs.declared.TakeCall.{TakeCall}
-use Rattle.frame_pool.specs.declared.GiveCall.{GiveCall}
+use Rattle.frame_pool.specs.declared.Call.{Call}
 
 -- ---- "The spring model has sixteen frames, numbered 0 to 15, and decoders A and B."
 
@@ -69,6 +68,15 @@ with_mark p f m = record { marks = set p.marks f m }
 
 -- ---- A take
 
+-- The number of the frame, or of the refusal.
+pub data TakeReply : Type 0 where
+  Frame : (frame : ℕ) → TakeReply
+  Refused : (number : ℕ) → TakeReply
+
+pub record TakeCall : Type 0 where
+  pub reply : TakeReply
+  pub pool : Pool
+
 -- "six"
 abbrev pub share : ℕ
 share = 6
@@ -101,6 +109,14 @@ take_of p d = pick (serves p d) (served_take p d) (refused_take p)
 
 -- ---- A give
 
+pub data GiveReply : Type 0 where
+  Given : GiveReply
+  Refused : (number : ℕ) → GiveReply
+
+pub record GiveCall : Type 0 where
+  pub reply : GiveReply
+  pub pool : Pool
+
 -- A decoder "gives it back": the frame is free
 abbrev pub accepted_give : Pool → (frame : ℕ) → GiveCall
 accepted_give p f = record { reply = GiveReply.Given; pool = with_mark p f None }
@@ -111,3 +127,19 @@ refused_give p = record { reply = GiveReply.Refused 33; pool = p }
 
 unfoldable pub give_of : Pool → DecoderId → (frame : ℕ) → GiveCall
 give_of p d f = pick (is_held_by d p f) (accepted_give p f) (refused_give p)
+
+-- ---- What the calls return
+
+abbrev pub take_reply : Result ℕ Refusal → TakeReply
+take_reply (Ok f) = TakeReply.Frame f
+take_reply (Err r) = TakeReply.Refused (number_of r)
+
+abbrev pub take_says : Call ℕ → TakeCall
+take_says c = record { reply = take_reply c.reply; pool = c.pool }
+
+abbrev pub give_reply : Result (Unit {0}) Refusal → GiveReply
+give_reply (Ok _) = GiveReply.Given
+give_reply (Err r) = GiveReply.Refused (number_of r)
+
+abbrev pub give_says : Call (Unit {0}) → GiveCall
+give_says c = record { reply = give_reply c.reply; pool = c.pool }

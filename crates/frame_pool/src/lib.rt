@@ -2,11 +2,12 @@
 #![tactic(auto)]
 
 ghost use Rattle.std.specs.Prelude.{◌≡◌, ◌-◌, ltb};
-ghost use Rattle.frame_pool.specs.FramePool.{share, other_decoder, new_pool, take_of, give_of};
+ghost use Rattle.frame_pool.specs.FramePool.{share, other_decoder, new_pool, take_of, take_says, give_of, give_says};
 ghost use Rattle.frame_pool.specs.HighestFree.{HighestFree};
 ghost use Rattle.frame_pool.specs.FrameLists.{SixteenFrames, AlwaysServed, AtMostTen, ServedAlike, PremisesNeeded};
 
 use crate::marks::{count, highest_free, holds};
+use layout::refusal::Refusal;
 
 mod marks; // marks.rt: the frames' marks, counted and looked for
 
@@ -21,6 +22,17 @@ pub enum DecoderId {
     B,
 }
 
+impl DecoderId {
+    fn other(self) -> DecoderId
+        ensures { result ≡ other_decoder self }
+    {
+        match self {
+            DecoderId::A => DecoderId::B,
+            DecoderId::B => DecoderId::A,
+        }
+    }
+}
+
 // Who holds a frame; of a free one nobody.
 type Mark = Option<DecoderId>;
 
@@ -30,38 +42,11 @@ pub struct Pool {
     marks: [Mark; FRAMES],
 }
 
-// The number of the frame, or of the refusal.
+// A reply, and the pool after it.
 #[derive(Clone, Copy)]
-pub enum TakeReply {
-    Frame(usize),
-    Refused(u32),
-}
-
-#[derive(Clone, Copy)]
-pub enum GiveReply {
-    Given,
-    Refused(u32),
-}
-
-#[derive(Clone, Copy)]
-pub struct TakeCall {
-    pub reply: TakeReply,
+pub struct Call<T> {
+    pub reply: Result<T, Refusal>,
     pub pool: Pool,
-}
-
-#[derive(Clone, Copy)]
-pub struct GiveCall {
-    pub reply: GiveReply,
-    pub pool: Pool,
-}
-
-fn other(who: DecoderId) -> DecoderId
-    ensures { result ≡ other_decoder who }
-{
-    match who {
-        DecoderId::A => DecoderId::B,
-        DecoderId::B => DecoderId::A,
-    }
 }
 
 // What a decoder that holds so many still lacks to its share: nothing where it holds more.
@@ -87,41 +72,41 @@ pub fn new_pool() -> Pool
     }
 }
 
-// The highest-numbered free frame for a decoder; refused with 32, the pool is left.
-pub fn take(pool: Pool, who: DecoderId) -> TakeCall
-    ensures { result ≡ take_of pool who }
+// The highest-numbered free frame for a decoder; refused, the pool is left.
+pub fn take(pool: Pool, who: DecoderId) -> Call<usize>
+    ensures { take_says result ≡ take_of pool who }
 {
     let mut marks = pool.marks;
     let free = count(&marks, None);
-    let held = count(&marks, Some(other(who)));
+    let held = count(&marks, Some(who.other()));
     if !outnumber(free, held) {
-        return TakeCall {
-            reply: TakeReply::Refused(32),
+        return Call {
+            reply: Err(Refusal::NotServed),
             pool,
         };
     }
     let frame = highest_free(&marks);
     marks[frame] = Some(who);
-    TakeCall {
-        reply: TakeReply::Frame(frame),
+    Call {
+        reply: Ok(frame),
         pool: Pool { marks },
     }
 }
 
-// A frame given back by the decoder that holds it; refused with 33, the pool is left.
-pub fn give(pool: Pool, who: DecoderId, frame: usize) -> GiveCall
-    ensures { result ≡ give_of pool who frame }
+// A frame given back by the decoder that holds it; refused, the pool is left.
+pub fn give(pool: Pool, who: DecoderId, frame: usize) -> Call<()>
+    ensures { give_says result ≡ give_of pool who frame }
 {
     let mut marks = pool.marks;
     if !holds(&marks, Some(who), frame) {
-        return GiveCall {
-            reply: GiveReply::Refused(33),
+        return Call {
+            reply: Err(Refusal::NotHeld),
             pool,
         };
     }
     marks[frame] = None;
-    GiveCall {
-        reply: GiveReply::Given,
+    Call {
+        reply: Ok(()),
         pool: Pool { marks },
     }
 }

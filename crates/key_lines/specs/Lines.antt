@@ -6,7 +6,7 @@ use Rattle.layout.specs.Records.{num_samples}
 use Rattle.layout.specs.declared.DspFormat.{DspFormat}
 use Rattle.reader.specs.declared.HpsReader.{HpsReader}
 use Rattle.key_lines.specs.declared.Column.{Column}
-use Rattle.key_lines.specs.declared.Column.TheVariants.{Number, Start, Minus, Nothing}
+use Rattle.key_lines.specs.declared.Column.TheVariants.{Number, Start, Minus}
 
 -- "right-justified decimals": the last digit, before it the other digits, or blanks where there are none
 unfoldable pub column : (width n : ℕ) → List ℕ
@@ -18,7 +18,6 @@ abbrev pub column_bytes : Column → List ℕ
 column_bytes (Number n) = column 11 n
 column_bytes (Start n) = column 21 n
 column_bytes Minus = replicate 10 32 ++ (45 ∷ [])
-column_bytes Nothing = []
 
 -- columns, one after the other
 abbrev pub columns_bytes : List Column → List ℕ

@@ -1,24 +1,36 @@
 -- Filler and padding.
-use Prim.Native.Nat.{ℕ, ◌+◌, ◌-◌, ◌*◌, ◌/◌, ◌%◌, ◌<◌}
-use mathlib.Core.Path.{◌≡◌, sym, ap, ◌∙◌}
-use mathlib.Core.List.{[], ◌∷◌, flat_map}
+use Prim.Native.Nat.{ℕ, zero, suc, ◌+◌, ◌-◌, ◌*◌, ◌/◌, ◌%◌, ◌<◌}
+use mathlib.Core.Path.{◌≡◌, refl, sym, ap, ◌∙◌}
+use mathlib.Core.List.{List, [], ◌∷◌, flat_map}
 use native.Mathlib.Omega.{arith}
-use lib.ListN.{length, get_or, length-replicate, get_or-replicate}
+use lib.ListN.{take, replicate}
+use Rattle.std.specs.List.{flat_map as flat_map_std}
 use Rattle.layout.specs.Records.{be32, padded_size, cue_bytes, filler, fillers}
-use Rattle.layout.proofs.Lengths.{cues-length}
+
+-- a filler's bytes
+abbrev filler_bytes : List ℕ
+filler_bytes = 255 ∷ 255 ∷ 255 ∷ 255 ∷ 0 ∷ 0 ∷ 0 ∷ 0 ∷ []
+
+-- arrays one after the other
+abbrev flattened : List (List ℕ) → List ℕ
+flattened bss = flat_map_std (λ (bs : List ℕ). bs) bss
+
+-- of three fillers the first k
+first_fillers : (k : ℕ) → k < 4 → flattened (take k (replicate 3 filler_bytes)) ≡ flat_map cue_bytes (replicate k filler)
+unfolding cue_bytes be32 flat_map
+first_fillers zero h = refl
+first_fillers (suc zero) h = refl
+first_fillers (suc (suc zero)) h = refl
+first_fillers (suc (suc (suc zero))) h = refl
+first_fillers (suc (suc (suc (suc k)))) h = absurd (omega arith)
 
 module _ (n : ℕ) where
-  -- how many cues are filled up
-  pub fill_count : (4 - n % 4) % 4 ≡ length (fillers n)
+  -- the fillers after n cues
+  pub fillers_flat : flattened (take ((4 - n % 4) % 4) (replicate 3 filler_bytes)) ≡ flat_map cue_bytes (fillers n)
   unfolding fillers padded_size
-  fill_count = sym (length-replicate (padded_size (8 * n) / 8 - n) filler ∙ omega arith)
-
-  pub fill_one : (i : ℕ) → i < (4 - n % 4) % 4 → 255 ∷ 255 ∷ 255 ∷ 255 ∷ 0 ∷ 0 ∷ 0 ∷ 0 ∷ [] ≡ cue_bytes (get_or (fillers n) i filler)
-  unfolding fillers cue_bytes be32 padded_size
-  fill_one i h = rw (get_or-replicate (padded_size (8 * n) / 8 - n) i filler filler (omega arith))
-
-  pub fill_length : length (flat_map cue_bytes (fillers n)) ≡ 8 * ((4 - n % 4) % 4)
-  fill_length = cues-length (fillers n) ∙ ap (λ (k : ℕ). 8 * k) (sym fill_count)
+  fillers_flat =
+      let e : padded_size (8 * n) / 8 - n ≡ (4 - n % 4) % 4 = omega arith in
+      first_fillers ((4 - n % 4) % 4) (omega arith) ∙ ap (λ (k : ℕ). flat_map cue_bytes (replicate k filler)) (sym e)
 
   -- how much is padded
   pub pad_is : (32 - n % 32) % 32 ≡ padded_size n - n

@@ -29,12 +29,9 @@ pub fn put_header(buf: &mut [u8], at: usize, h: BlockHeader)
 {
     if inside(buf.len(), at, BLOCK_HEADER_SIZE) {
         put_words(buf, at, h.size, h.end_address, h.next_offset);
-        let left = h.left;
-        put_block_context(buf, at + 12, left);
-        let right = h.right;
-        put_block_context(buf, at + 20, right);
-        let count = [(h.cues % 256) as u8, 0, 0, 0];
-        put_bytes(buf, at + 28, &count);
+        put_block_context(buf, at + 12, h.left);
+        put_block_context(buf, at + 20, h.right);
+        put_bytes(buf, at + 28, &[(h.cues % 256) as u8, 0, 0, 0]);
     }
 }
 
@@ -43,14 +40,8 @@ pub fn put_fillers(buf: &mut [u8], at: usize, n: usize)
     ensures { buf.new ≡ put_at buf.old at (flat_map cue_bytes (fillers n)) }
 {
     let count = (4 - n % 4) % 4;
-    if inside(buf.len(), at, CUE_POINT_SIZE * count) {
-        let filler = [255, 255, 255, 255, 0, 0, 0, 0];
-        let mut i: usize = 0;
-        while i < count {
-            put_bytes(buf, at + CUE_POINT_SIZE * i, &filler);
-            i += 1;
-        }
-    }
+    let fillers: [[u8; CUE_POINT_SIZE]; 3] = [[255, 255, 255, 255, 0, 0, 0, 0]; 3];
+    put_bytes(buf, at, fillers[..count].as_flattened());
 }
 
 pub fn put_padded(buf: &mut [u8], at: usize, bytes: &[u8])

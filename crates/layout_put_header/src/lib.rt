@@ -3,7 +3,6 @@
 
 ghost use Rattle.std.specs.Prelude.{◌≡◌};
 ghost use mathlib.Core.List.{◌++◌, flat_map};
-ghost use Rattle.layout.specs.Choice.{pick};
 ghost use Rattle.layout.specs.Records.{be32, be_z16, format_number, channel_bytes, file_header_bytes, magic};
 ghost use Rattle.layout.specs.Puts.{put_at};
 
@@ -12,6 +11,7 @@ use layout::limits::{CHANNEL_SIZE, FILE_HEADER_SIZE};
 use layout::{Channel, DspFormat, MAGIC};
 use layout_put::{put_bytes, put_context, put_i16, put_u16, put_u32, put_words};
 
+// No From<DspFormat> for u16: such an impl stands in the crate of DspFormat, and this one match says as much.
 fn format_number(f: DspFormat) -> u16
     ensures { result ≡ format_number f }
 {
@@ -22,20 +22,12 @@ fn format_number(f: DspFormat) -> u16
     }
 }
 
-fn looping_number(looping: bool) -> u16
-    ensures { result ≡ pick looping 1 0 }
-{
-    if looping { 1 } else { 0 }
-}
-
 pub fn put_coefficients(buf: &mut [u8], at: usize, coefficients: [i16; 16])
     ensures { buf.new ≡ put_at buf.old at (flat_map be_z16 coefficients) }
 {
     if inside(buf.len(), at, 32) {
-        let mut i: usize = 0;
-        while i < 16 {
-            put_i16(buf, at + 2 * i, coefficients[i]);
-            i += 1;
+        for (i, x) in coefficients.iter().enumerate() {
+            put_i16(buf, at + 2 * i, *x);
         }
     }
 }
@@ -44,9 +36,8 @@ fn put_channel(buf: &mut [u8], at: usize, c: Channel)
     ensures { buf.new ≡ put_at buf.old at (channel_bytes c) }
 {
     if inside(buf.len(), at, CHANNEL_SIZE) {
-        let format = c.format;
-        put_u16(buf, at, looping_number(c.looping));
-        put_u16(buf, at + 2, format_number(format));
+        put_u16(buf, at, u16::from(c.looping));
+        put_u16(buf, at + 2, format_number(c.format));
         put_words(
             buf,
             at + 4,
@@ -54,11 +45,9 @@ fn put_channel(buf: &mut [u8], at: usize, c: Channel)
             c.end_address,
             c.current_address,
         );
-        let coefficients = c.coefficients;
-        put_coefficients(buf, at + 16, coefficients);
+        put_coefficients(buf, at + 16, c.coefficients);
         put_u16(buf, at + 48, c.gain);
-        let context = c.context;
-        put_context(buf, at + 50, context);
+        put_context(buf, at + 50, c.context);
     }
 }
 
@@ -67,8 +56,7 @@ fn put_magic(buf: &mut [u8], rate: u32, count: u32)
     ensures { buf.new ≡ put_at buf.old 0 (magic ++ be32 rate ++ be32 count) }
 {
     if inside(buf.len(), 0, 16) {
-        let bytes = MAGIC;
-        put_bytes(buf, 0, &bytes);
+        put_bytes(buf, 0, &MAGIC);
         put_u32(buf, 8, rate);
         put_u32(buf, 12, count);
     }

@@ -66,20 +66,8 @@ mul_bound {a} {b} {m} {n} h k = le_trans (mul-le-mul_left a k) (mul-le-mul_right
 pub abs_product : (a b : ℤ) {m n : ℕ} → nat_abs a ≤ m → nat_abs b ≤ n → nat_abs (a *ℤ b) ≤ m * n
 abs_product a b h k = rw (abs_mul a b) (mul_bound h k)
 
--- z clamped, by the two tests.
-pub clamped_low : (z : ℤ) → lt_z z (negsuc 32767) ≡ true → negsuc 32767 ≡ clamped z
-unfolding clamped
-clamped_low z e = rw e
-
-pub clamped_high : (z : ℤ) → lt_z z (negsuc 32767) ≡ false → lt_z (pos 32767) z ≡ true → pos 32767 ≡ clamped z
-unfolding clamped
-clamped_high z d e = rw (d, e)
-
-pub clamped-same : (z : ℤ) → lt_z z (negsuc 32767) ≡ false → lt_z (pos 32767) z ≡ false → z ≡ clamped z
-unfolding clamped
-clamped-same z d e = rw (d, e)
-
-pub unclamped_fits : (z : ℤ) → lt_z z (negsuc 32767) ≡ false → lt_z (pos 32767) z ≡ false → SFits w16 z
+-- A number that is clamped, or need not be, fits.
+unclamped_fits : (z : ℤ) → lt_z z (negsuc 32767) ≡ false → lt_z (pos 32767) z ≡ false → SFits w16 z
 unclamped_fits (pos n) d e = record { sfits = omega (arith, ltb-false 32767 n e) }
 unclamped_fits (negsuc n) d e = record { sfits = omega (arith, ltb-false 32767 n d) }
 

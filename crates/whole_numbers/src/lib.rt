@@ -8,20 +8,15 @@ ghost use Rattle.whole_numbers.specs.Whole.{clamped, RoundedDown};
 pub fn product(a: i16, b: i16) -> i64
     ensures { result ≡ a *ℤ b }
 {
-    let x = a as i64;
-    let y = b as i64;
-    x * y
+    i64::from(a) * i64::from(b)
 }
 
 // The nearest number of 16 bits.
+#[tactic(auto, unfolding(crate::specs::Whole::clamped))]
 pub fn clamp_i16(z: i64) -> i16
     ensures { result ≡ clamped z }
 {
-    if z < -32768 {
-        -32768
-    } else {
-        if z > 32767 { 32767 } else { z as i16 }
-    }
+    z.clamp(-32768, 32767) as i16
 }
 
 // The quotient of the definitions is the one rounded towards minus infinity.

@@ -1,27 +1,17 @@
-use Prim.Native.Nat.{◌+◌, ◌≤◌}
 use mathlib.Core.Path.{refl}
 use mathlib.Core.List.{[], ◌∷◌}
 use native.Mathlib.Omega.{arith}
-use lib.ListN.{length}
 use Rattle.layout.specs.Records.{be16, context_bytes}
 use Rattle.layout.proofs.Lengths.{context-length}
 use Rattle.layout_put_block.proofs.WrittenLaws.{block_context_length}
 use Rattle.layout.proofs.FieldLaws.{passed, failed}
 use Rattle.layout.proofs.PutLaws.{Put, put_then, kept}
 use Rattle.layout_put_block.proofs.put_block_context.Goals as goal
-use Rattle.layout_put_block.proofs.put_block_context.Goals.{Then-inside}
-
-room : (c : Then-inside) → c.args.at + 8 ≤ length c.args.buf.now
-room c = passed c.inside.ensures c.if-inside.true
-
-pub overflow_add-at : goal.overflow_add-at
-overflow_add-at c = let h = room (goal.at.overflow_add-at c).Then-inside in omega arith
 
 pub returns-then-inside : goal.returns-then-inside
 unfolding be16
 returns-then-inside c =
-    let h = room (goal.at.returns-then-inside c).Then-inside in
-    let a = c.args in
+    let h = passed c.inside.ensures c.if-inside.true in
     let p0 : Put _ _ 6 (context_bytes _) _ = record { size = context-length _; is = c.put_context.ensures } in
     let p1 = put_then p0 (0 ∷ 0 ∷ []) refl c.put_u16.ensures refl (omega arith) in
     p1.is

@@ -1,8 +1,6 @@
-use Prim.Native.Nat.{◌+◌, ◌≤◌}
 use mathlib.Core.Path.{refl, ap, ◌∙◌}
 use mathlib.Core.List.{[], ◌∷◌, ◌++◌, append_assoc}
 use native.Mathlib.Omega.{arith}
-use lib.ListN.{length}
 use Rattle.layout.specs.Records.{context_bytes, header_bytes}
 use Rattle.layout.proofs.Lengths.{words_length}
 use Rattle.layout_put_block.specs.HeaderPut.{header_put}
@@ -11,26 +9,11 @@ use Rattle.layout.specs.Puts.{put_at}
 use Rattle.layout.proofs.FieldLaws.{passed, failed}
 use Rattle.layout.proofs.PutLaws.{Put, put_then, kept}
 use Rattle.layout_put_block.proofs.put_header.Goals as goal
-use Rattle.layout_put_block.proofs.put_header.Goals.{Then-inside}
-
-room : (c : Then-inside) → c.args.at + 32 ≤ length c.args.buf.now
-room c = passed c.inside.ensures c.if-inside.true
-
-pub overflow_add-at : goal.overflow_add-at
-overflow_add-at c = let h = room (goal.at.overflow_add-at c).Then-inside in omega arith
-
-pub overflow_add-at-then-inside : goal.overflow_add-at-then-inside
-overflow_add-at-then-inside c = let h = room (goal.at.overflow_add-at-then-inside c).Then-inside in omega arith
-
-pub overflow_add-at-then-inside-2 : goal.overflow_add-at-then-inside-2
-overflow_add-at-then-inside-2 c =
-    let h = room (goal.at.overflow_add-at-then-inside-2 c).Then-inside in omega arith
 
 pub returns-then-inside : goal.returns-then-inside
 unfolding header_put header_bytes
 returns-then-inside c =
-    let h = room (goal.at.returns-then-inside c).Then-inside in
-    let a = c.args in
+    let h = passed c.inside.ensures c.if-inside.true in
     let p0 : Put _ _ 12 _ _ = record { size = words_length _ _ _; is = c.put_words.ensures } in
     let p1 = put_then p0 (context_bytes _ ++ (0 ∷ 0 ∷ [])) (block_context_length _) c.put_block_context.ensures refl (omega arith) in
     let p2 = put_then p1 (context_bytes _ ++ (0 ∷ 0 ∷ [])) (block_context_length _) c.put_block_context-then-inside.ensures refl (omega arith) in

@@ -1,9 +1,8 @@
-use Prim.Native.Nat.{◌+◌, ◌≤◌}
 use mathlib.Core.Path.{◌≡◌, refl, ap, ◌∙◌}
 use mathlib.Core.List.{◌++◌, append_assoc}
 use native.Mathlib.Omega.{arith}
 use lib.ListN.{length}
-use Rattle.layout.specs.Records.{be32, magic, channel_bytes, file_header_bytes, file_header_size}
+use Rattle.layout.specs.Records.{be32, magic, channel_bytes, file_header_bytes}
 use Rattle.layout.specs.Puts.{put_at}
 use Rattle.layout.proofs.Lengths.{channel-length, file_header-length}
 use Rattle.layout.proofs.FieldLaws.{passed, failed}
@@ -11,23 +10,13 @@ use Rattle.layout.proofs.PutLaws.{Put, put_then, kept}
 use Rattle.layout.proofs.Lengths.{magic-length}
 use borrow.Author.Rules.{rules}
 use Rattle.layout_put_header.proofs.put_file_header.Goals as goal
-use Rattle.layout_put_header.proofs.put_file_header.Goals.{Then-inside}
-
-room : (c : Then-inside) → 0 + file_header_size ≤ length c.args.buf.now
-room c = passed c.inside.ensures c.if-inside.true
-
-left-sixteen : (c : Then-inside) → length c.args.left.coefficients ≡ 16
-left-sixteen c = search rules
-
-right-sixteen : (c : Then-inside) → length c.args.right.coefficients ≡ 16
-right-sixteen c = search rules
 
 pub returns-then-inside : goal.returns-then-inside
 unfolding file_header_bytes
 returns-then-inside c =
-    let h = room (goal.at.returns-then-inside c).Then-inside in
-    let l = left-sixteen (goal.at.returns-then-inside c).Then-inside in
-    let r = right-sixteen (goal.at.returns-then-inside c).Then-inside in
+    let h = passed c.inside.ensures c.if-inside.true in
+    let l : length c.args.left.coefficients ≡ 16 = search rules in
+    let r : length c.args.right.coefficients ≡ 16 = search rules in
     let p0 : Put _ _ 16 (magic ++ be32 _ ++ be32 _) _ = record { size = magic-length _ _; is = c.put_magic.ensures } in
     let p1 = put_then p0 (channel_bytes _) (channel-length _ l) c.put_channel.ensures refl (omega arith) in
     let p2 = put_then p1 (channel_bytes _) (channel-length _ r) c.put_channel-then-inside.ensures refl (omega arith) in

@@ -1,6 +1,6 @@
 use mathlib.Core.Path.{refl, ◌∙◌}
 use Rattle.layout.proofs.FieldLaws.{beside_read, beside_number}
-use Rattle.c_opened.proofs.KeptReads.{and_readable, too_few, many-channels, many_blocks, no_left, no_right, part-made}
+use Rattle.c_opened.proofs.KeptReads.{and_readable, too_few, many-channels, many_blocks, no_left, no_right, part-made, lesser_is}
 use borrow.Author.Rules.{rules}
 use Rattle.c_opened.proofs.opened.reader_in.Goals as goal
 
@@ -51,7 +51,7 @@ returns c =
     let all = and_readable _ _ _ _
     (part-made _ _ _ c.if-kept-lt-OPENED_SIZE.false c.word-count.ensures c.if-count-gt2.false
     c.word-blocks.ensures c.if-blocks-gt-BLOCK_LIMIT.false l r c.word-2.ensures refl refl refl
-    c.least.ensures.value c.offsets_in-offsets.ensures c.word.ensures c.loop_of-loop_start.ensures) in
+    (c.min.ensures ∙ lesser_is _ _) c.offsets_in-offsets.ensures c.word.ensures c.loop_of-loop_start.ensures) in
     record {
       value = all.0;
       readable = all.1;

@@ -1,0 +1,33 @@
+// Why a call on lent bytes gives nothing: it has come to the end, or was lent what it cannot use.
+ghost use Rattle.std.specs.Prelude.{◌≡◌};
+ghost use Rattle.c_opened.specs.Failures.{failure_number};
+
+use crate::{END, NO_KIND, NO_RECORD, NO_ROOM, NO_SIDE};
+
+#[derive(Clone, Copy, Debug, PartialEq, Eq)]
+pub enum Failure {
+    // A reading call has come to the end.
+    End,
+    // The lent bytes are no record.
+    NoRecord,
+    // A looping mode or a kind of cue that there is not.
+    NoKind,
+    // The bytes lent for a record or a cursor are too few for it.
+    NoRoom,
+    // A side of a channel of the push has too few bytes.
+    NoSide,
+}
+
+impl From<Failure> for u32 {
+    ghost from_gives = { λ failure number. number ≡ failure_number failure };
+
+    fn from(failure: Failure) -> u32 {
+        match failure {
+            Failure::End => END,
+            Failure::NoRecord => NO_RECORD,
+            Failure::NoKind => NO_KIND,
+            Failure::NoRoom => NO_ROOM,
+            Failure::NoSide => NO_SIDE,
+        }
+    }
+}

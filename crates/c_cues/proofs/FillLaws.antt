@@ -1,4 +1,5 @@
 -- As many cue calls as there is room for: the loop's invariant, and what each way out of it gives.
+use Rattle.std.proofs.Common.{Option}
 use Prim.Native.Nat.{ℕ, zero, suc, ◌+◌, ◌*◌, ◌-◌, ◌/◌, ◌≤◌, ◌<◌}
 use mathlib.Core.Path.{◌≡◌, refl, sym, ap, ◌∙◌}
 use mathlib.Core.Bool.{Bool}
@@ -13,7 +14,6 @@ use Rattle.layout.specs.Records.{cue_at, length_in}
 use Rattle.layout.proofs.Cases.{by_cases}
 use Rattle.layout.proofs.PutLaws.{Put, put_then, put_at-none}
 use Rattle.layout.specs.declared.DspFormat.{DspFormat}
-use Rattle.reader.specs.declared.LoopStart.{LoopStart}
 use Rattle.reader.specs.declared.HpsReader.{HpsReader}
 use Rattle.reader.specs.declared.CueIterator.{CueIterator}
 use Rattle.reader.specs.OpeningAndReading.{offsets_from}
@@ -160,7 +160,7 @@ room-more m h e = let f = m.sixteens in let s = m.same in record { same = e ∙ 
 abbrev pub Filled : (s : List ℕ) (r : HpsReader) (from : CueIterator) (before after : List ℕ) → CuesFilled → Type 0
 Filled s r from before after x = (x ≡ given_of (cues_given s r (length before / 16) from)) × (after ≡ put_at before 0 (cues_given s r (length before / 16) from).bytes)
 
-module _ (s os : List ℕ) (blocks : ℕ) (start : LoopStart) (f : DspFormat) (from : CueIterator) (before out : List ℕ) (c : CueIterator) (cues at : ℕ) (m : Room before out cues at)
+module _ (s os : List ℕ) (blocks : ℕ) (start : Option ℕ) (f : DspFormat) (from : CueIterator) (before out : List ℕ) (c : CueIterator) (cues at : ℕ) (m : Room before out cues at)
     (p : (r : HpsReader) → PartsOf r os blocks start f → Filling s r from before out c cues at) where
   pub all_end : length out - at < 16 → {x : CuesFilled} → x ≡ filled_of 0 cues c → (r : HpsReader) → PartsOf r os blocks start f → Filled s r from before out x
   all_end h e r o = let w = no_room s r from before out c cues at m (p r o) (omega (arith, m.same)) in (e ∙ w.0, w.1)

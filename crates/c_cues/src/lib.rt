@@ -16,7 +16,7 @@ use layout::DspFormat;
 use layout::limits::BLOCK_LIMIT;
 use layout_number_or_zero::{long, word};
 use layout_put::put_u32;
-use reader::{CueIterator, HpsReader, LoopStart};
+use reader::{CueIterator, HpsReader};
 use reader_cues::{cue_from, first_cursor};
 
 mod bytes; // bytes.rt: a cue in lent bytes
@@ -84,7 +84,7 @@ fn fill_cues(
     s: &[u8],
     offsets: &[u32],
     blocks: usize,
-    start: LoopStart,
+    start: Option<usize>,
     format: DspFormat,
     from: CueIterator,
     out: &mut [u8],

@@ -1,5 +1,6 @@
 -- The opening record read from lent bytes: loop start, offsets one after the other, and the record that the reads come to.
-use Prim.Native.Nat.{ℕ, zero, suc, ◌+◌, ◌*◌, ◌%◌, ◌≤◌, ◌<◌}
+use Rattle.std.proofs.Common.{Option, Some, None, Ok, Err}
+use Prim.Native.Nat.{ℕ, zero, suc, ◌+◌, ◌*◌, ◌%◌, ◌≤◌, ◌<◌, min}
 use mathlib.Core.Path.{◌≡◌, refl, sym, ap, ◌∙◌}
 use mathlib.Core.Logic.{◌⊎◌, inl, inr, ⊎_elim}
 use mathlib.Core.List.{List, [], ◌∷◌}
@@ -16,29 +17,32 @@ use Rattle.layout.proofs.Cases.{by_cases}
 use Rattle.reader.specs.OpeningAndReading.{Readable}
 use Rattle.reader.specs.ReaderAnswers.{no_reader}
 use Rattle.reader.specs.declared.HpsReader.{HpsReader}
-use Rattle.reader.specs.declared.LoopStart.{LoopStart}
 use Rattle.layout_number_or_zero.specs.NumberOrZero.{word_at}
 use Rattle.layout_number_or_zero.proofs.NumberLaws.{word_in}
-use Rattle.c_opened.specs.KeptReader.{loop_number, loop_of, lesser, offsets_in, part_in, opened_size, offsets_at}
+use Rattle.c_opened.specs.declared.failure.Failure.TheVariants.{NoRecord}
+use Rattle.c_opened.specs.KeptReader.{loop_number, loop_of, lesser, offsets_in, part_in, where_opened, opened_size, offsets_at}
 use Rattle.layout.specs.Refusals.{block_limit}
 use Rattle.layout.proofs.ListLaws.{zeros_at}
 
 -- ---- Loop start and lesser number
 
-pub no_loop_lem : (n : ℕ) → n ≡ 4294967295 → LoopStart.None ≡ loop_of n
+pub no_loop_lem : (n : ℕ) → n ≡ 4294967295 → None ≡ loop_of n
 no_loop_lem n h = rw (eq-eqb n 4294967295 h)
 
-pub a_loop : (n : ℕ) → (n ≡ 4294967295 → ⊥) → LoopStart.Block n ≡ loop_of n
+pub a_loop : (n : ℕ) → (n ≡ 4294967295 → ⊥) → Some n ≡ loop_of n
 a_loop n h = rw (ne_eqb n 4294967295 h)
 
-pub loop-number : (l : LoopStart) (i : ℕ) → l ≡ LoopStart.Block i → i % 4294967296 ≡ loop_number l
+pub loop-number : (l : Option ℕ) (i : ℕ) → l ≡ Some i → i % 4294967296 ≡ loop_number l
 loop-number l i e = rw e
-
-pub first-lesser : (a b : ℕ) → a < b → a ≡ lesser a b
-first-lesser a b h = rw (lt-ltb a b h)
 
 pub second-lesser : (a b : ℕ) → b ≤ a → b ≡ lesser a b
 second-lesser a b h = rw (le-ltb a b h)
+
+pub lesser_is : (a b : ℕ) → min a b ≡ lesser a b
+lesser_is a b =
+    by_cases (ltb a b)
+    (λ t. let h = ltb-true a b t in rw t (omega arith))
+    (λ t. let h = ltb-false a b t in rw t (omega arith))
 
 -- ---- Offsets
 
@@ -123,7 +127,7 @@ module _ {kept : List ℕ} {from to : ℕ} where
 
 -- ---- The record
 
-same_record : (q : HpsReader) {rate count blocks : ℕ} {cs : List Channel} {os : List ℕ} {start : LoopStart} → q.rate ≡ rate → q.count ≡ count → q.channels ≡ cs → q.blocks ≡ blocks
+same_record : (q : HpsReader) {rate count blocks : ℕ} {cs : List Channel} {os : List ℕ} {start : Option ℕ} → q.rate ≡ rate → q.count ≡ count → q.channels ≡ cs → q.blocks ≡ blocks
     → q.offsets ≡ os
     → q.loop_start ≡ start → q ≡ record { rate = rate; count = count; channels = cs; blocks = blocks; offsets = os; loop_start = start }
 same_record q e1 e2 e3 e4 e5 e6 = rw (← e1, ← e2, ← e3, ← e4, ← e5, ← e6)
@@ -213,5 +217,27 @@ module _ (kept : List ℕ) (from to : ℕ) where
       by_cases (ltb block_limit (u32_at kept file_header_size)) (λ v. rw (t, u, v) no_shape) (λ v.
       rw (t, u, v) (channels_shape (read_channel kept 16) (read_channel kept 72) (ltb-false 2 (u32_at kept 12) u) (ltb-false block_limit (u32_at kept file_header_size) v)))))
 
-pub and_readable : (kept : List ℕ) (from to : ℕ) (q : HpsReader) → q ≡ part_in kept from to → (q ≡ part_in kept from to) × Readable q
-and_readable kept from to q e = (e, rw e (part_shape kept from to).readable)
+-- ---- The record where the bytes hold one
+
+module _ (kept : List ℕ) (from to : ℕ) where
+  pub none_held : no_reader ≡ part_in kept from to → Err NoRecord ≡ where_opened (part_in kept from to)
+  none_held e = rw (← e)
+
+  pub record_held : (q : HpsReader) → (q.count ≡ 0 → ⊥) → q ≡ part_in kept from to → Ok q ≡ where_opened (part_in kept from to)
+  record_held q some e = rw (← e, ne_eqb q.count 0 some)
+
+  no_count : (a b : Read Channel) → u32_at kept 12 ≡ 0 → (at_channels kept from to a b).count ≡ 0
+  no_count (Read.refused n) b z = refl
+  no_count (Read.value l) (Read.refused n) z = refl
+  no_count (Read.value l) (Read.value r) z = z
+
+  part_none : u32_at kept 12 ≡ 0 → (part_in kept from to).count ≡ 0
+  unfolding part_in
+  part_none z =
+      by_cases (ltb (length kept) opened_size) (λ t. rw t) (λ t.
+      by_cases (ltb 2 (u32_at kept 12)) (λ u. rw (t, u)) (λ u.
+      by_cases (ltb block_limit (u32_at kept file_header_size)) (λ v. rw (t, u, v)) (λ v.
+      rw (t, u, v) (no_count (read_channel kept 16) (read_channel kept 72) z))))
+
+  pub none_counted : {count : ℕ} → opened_size ≤ length kept → count ≡ word_at kept 12 → count ≡ 0 → Err NoRecord ≡ where_opened (part_in kept from to)
+  none_counted h c z = rw (eq-eqb (part_in kept from to).count 0 (part_none (sym (c ∙ word_in kept 12 (omega arith)) ∙ z)))

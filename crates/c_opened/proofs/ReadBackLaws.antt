@@ -1,4 +1,5 @@
 -- The bytes that are put for an opening's record stand for that record.
+use Rattle.std.proofs.Common.{Option, Some, None}
 use Prim.Native.Nat.{ℕ, zero, suc, ◌+◌, ◌*◌, ◌-◌, ◌%◌, ◌≤◌, ◌<◌}
 use mathlib.Core.Path.{◌≡◌, refl, sym, ap, ◌∙◌}
 use mathlib.Core.Bool.{true, false}
@@ -26,11 +27,9 @@ use Rattle.layout.proofs.AtLaws.{At, at_left, at_right, at_move, at_same, at_byt
 use Rattle.layout.proofs.ReadBack.{channel-back, none-fits}
 use Rattle.layout.proofs.PutLaws.{put_at_in, put_at-length}
 use Rattle.reader.specs.OpeningAndReading.{Walked, first_at, walk_from, Opened, made, opening, Readable}
-use Rattle.reader.specs.ReaderAnswers.{open_call}
 use Rattle.reader.specs.declared.HpsReader.{HpsReader}
-use Rattle.reader.specs.declared.LoopStart.{LoopStart}
 use Rattle.reader.proofs.HeaderLaws.{header_cases, header_is}
-use Rattle.reader.proofs.OpenedLaws.{Parts, opened_parts_lem, one_or_two, not_walked, and_readable}
+use Rattle.reader.proofs.OpenedLaws.{Parts, opened_parts_lem, one_or_two, not_walked, opened_readable}
 use Rattle.layout_number_or_zero.specs.NumberOrZero.{word_at}
 use Rattle.layout_number_or_zero.proofs.NumberLaws.{word_in}
 use Rattle.c_opened.specs.KeptReader.{loop_number, loop_of, file_kept, offsets_kept, opened_parts, opened_bytes, offsets_in, reader_in, ReadBack, opened_size, offsets_at}
@@ -114,11 +113,11 @@ unfolding u32_at u16_at
 u32_small s b at = omega (arith, byte_small s b at, byte_small s b (at + 1), byte_small s b (at + 2), byte_small s b (at + 2 + 1))
 
 -- its offsets are u32, and its loop start is one of its blocks
-record Walk (os : List ℕ) (start : LoopStart) : Type 0 where
+record Walk (os : List ℕ) (start : Option ℕ) : Type 0 where
   small : All Small os
-  loop : (i : ℕ) → start ≡ LoopStart.Block i → i < length os
+  loop : (i : ℕ) → start ≡ Some i → i < length os
 
-walk_ended : {here os : List ℕ} {l start : LoopStart} → All Small here → ((i : ℕ) → l ≡ LoopStart.Block i → i < length here) → Walked.walked here l ≡ Walked.walked os start → Walk os start
+walk_ended : {here os : List ℕ} {l start : Option ℕ} → All Small here → ((i : ℕ) → l ≡ Some i → i < length here) → Walked.walked here l ≡ Walked.walked os start → Walk os start
 walk_ended {here} {os} {l} {start} f g e =
     let x : here ≡ os = cc in
     let y : l ≡ start = cc in
@@ -128,7 +127,7 @@ next_small : (s : List ℕ) (at : ℕ) (v : BlockHeader) → Bytes s → read_he
 unfolding header_at
 next_small s at v b t = rw (header_is s at t) (u32_small s b (at + 8))
 
-walk_is : (n : ℕ) (s seen : List ℕ) (at : ℕ) (os : List ℕ) (start : LoopStart) → Bytes s → All Small seen → Small at → walk_from n s seen at ≡ Walked.walked os start → Walk os start
+walk_is : (n : ℕ) (s seen : List ℕ) (at : ℕ) (os : List ℕ) (start : Option ℕ) → Bytes s → All Small seen → Small at → walk_from n s seen at ≡ Walked.walked os start → Walk os start
 unfolding walk_from
 walk_is zero s seen at os start b f h e = not_walked 5 os start e
 walk_is (suc n) s seen at os start b f h e =
@@ -174,9 +173,9 @@ table-back k os f h a =
     get_or-append os (replicate (block_limit - length os) 0) 0 j l ∙ sym (first_offset k 0 (length os) block_limit j j-small ∙ rw (le-leb 0 j (omega arith), t) (offset_back offsets_at os f a j l)))
     (λ t. zeros_after os (block_limit - length os) j (ltb-false j (length os) t) ∙ sym (first_offset k 0 (length os) block_limit j j-small ∙ rw (le-leb 0 j (omega arith), t))))
 
-loop-back : (l : LoopStart) → ((i : ℕ) → l ≡ LoopStart.Block i → i < block_limit) → (loop_number l < 4294967296) × (l ≡ loop_of (loop_number l))
-loop-back LoopStart.None h = (omega arith, refl)
-loop-back (LoopStart.Block i) h =
+loop-back : (l : Option ℕ) → ((i : ℕ) → l ≡ Some i → i < block_limit) → (loop_number l < 4294967296) × (l ≡ loop_of (loop_number l))
+loop-back None h = (omega arith, refl)
+loop-back (Some i) h =
     let s = h i refl in
     let e : i % 4294967296 ≡ i = omega arith in
     rw e (omega arith, rw (ne_eqb i 4294967295 (apart i s)))
@@ -191,7 +190,7 @@ none_bytes = refl
 -- ---- The record
 
 -- the file header that is kept, and the record's parts after it
-module _ (s kept : List ℕ) (count : ℕ) (os : List ℕ) (start : LoopStart) (h : file_header_size ≤ length s) (bs : List ℕ)
+module _ (s kept : List ℕ) (count : ℕ) (os : List ℕ) (start : Option ℕ) (h : file_header_size ≤ length s) (bs : List ℕ)
     (is : bs ≡ ((file_kept s count ++ be32 (length os)) ++ be32 (loop_number start)) ++ (flat_map be32 os ++ replicate (4 * (block_limit - length os)) 0)) (room : opened_size ≤ length kept)
     (few : length os ≤ block_limit) where
   long : length bs ≡ opened_size
@@ -292,7 +291,7 @@ channel-inside s c e =
 pub opened-long : (s : List ℕ) (r : HpsReader) → opening s ≡ Opened.opened r → file_header_size ≤ length s
 opened-long s r e = channel-inside s _ (opened_parts_lem s r e).right_read
 
-made_offsets : (rate count : ℕ) (l r : Channel) (os : List ℕ) (start : LoopStart) → (made rate count l r os start).blocks ≤ length (made rate count l r os start).offsets
+made_offsets : (rate count : ℕ) (l r : Channel) (os : List ℕ) (start : Option ℕ) → (made rate count l r os start).blocks ≤ length (made rate count l r os start).offsets
 unfolding made
 made_offsets rate count l r os start = simp length-append (omega arith)
 
@@ -301,12 +300,12 @@ pub opened_offsets : (s : List ℕ) (r : HpsReader) → opening s ≡ Opened.ope
 opened_offsets s r e = let p = opened_parts_lem s r e in rw (← p.is) (made_offsets p.rate p.count p.left p.right p.offsets p.start)
 
 -- the bytes of a record by its parts
-bytes_are : (s : List ℕ) (rate count : ℕ) (l r : Channel) (os : List ℕ) (start : LoopStart)
+bytes_are : (s : List ℕ) (rate count : ℕ) (l r : Channel) (os : List ℕ) (start : Option ℕ)
     → opened_bytes s (made rate count l r os start) ≡ ((file_kept s count ++ be32 (length os)) ++ be32 (loop_number start)) ++ (flat_map be32 os ++ replicate (4 * (block_limit - length os)) 0)
 unfolding opened_parts offsets_kept made
 bytes_are s rate count l r os start = rw (take-append_seam os (replicate (block_limit - length os) 0))
 
-blocks_made : (rate count : ℕ) (l r : Channel) (os : List ℕ) (start : LoopStart) → length os ≡ (made rate count l r os start).blocks
+blocks_made : (rate count : ℕ) (l r : Channel) (os : List ℕ) (start : Option ℕ) → length os ≡ (made rate count l r os start).blocks
 unfolding made
 blocks_made rate count l r os start = refl
 
@@ -340,7 +339,7 @@ module _ (s kept : List ℕ) (b : Bytes s) (h : file_header_size ≤ length s) (
 pub read_back : ReadBack
 read_back s kept r b e room =
     let p = opened_parts_lem s r e in
-    let ok : Readable r = (and_readable s (open_call (Opened.opened r)) (ap open_call (sym e))).1 in
+    let ok : Readable r = opened_readable s r e in
     let few : length p.offsets ≤ block_limit = rw (blocks_of p) ok.blocks in
     rw (← p.is) (back s kept b (opened-long s r e) room p few)
   where

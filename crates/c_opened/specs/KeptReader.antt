@@ -1,14 +1,14 @@
 -- The opening record in lent bytes: the bytes that are put for it, and the record that bytes stand for.
-use Rattle.std.specs.Prelude.{ℕ, zero, suc, ◌+◌, ◌-◌, ◌*◌, ◌/◌, ◌%◌, ◌≤◌, ◌≡◌, length, take, replicate, ltb, leb, eqb}
+use Rattle.std.specs.Prelude.{ℕ, zero, suc, ◌+◌, ◌-◌, ◌*◌, ◌/◌, ◌%◌, ◌≤◌, ◌≡◌, length, take, replicate, ltb, leb, eqb, Option, Some, None, Result, Ok, Err}
 use mathlib.Core.List.{List, [], ◌∷◌, ◌++◌, flat_map}
+use Rattle.c_opened.specs.declared.failure.Failure.{Failure}
+use Rattle.c_opened.specs.declared.failure.Failure.TheVariants.{NoRecord}
 use Rattle.layout.specs.Choice.{pick, ◌and◌}
 use Rattle.layout.specs.Puts.{put_at}
 use Rattle.layout.specs.Records.{u32_at, be32, on, read_channel, file_header_size}
 use Rattle.layout.specs.Refusals.{block_limit}
 use Rattle.layout.specs.Types.{Bytes}
 use Rattle.reader.specs.OpeningAndReading.{Opened, opening}
-use Rattle.reader.specs.declared.LoopStart.{LoopStart}
-use Rattle.reader.specs.declared.LoopStart.TheVariants.{None, Block}
 use Rattle.reader.specs.declared.HpsReader.{HpsReader}
 use Rattle.reader.specs.ReaderAnswers.{no_reader}
 
@@ -33,13 +33,13 @@ abbrev pub no_loop : ℕ
 no_loop = 4294967295
 
 -- The loop start as a u32.
-abbrev pub loop_number : LoopStart → ℕ
+abbrev pub loop_number : Option ℕ → ℕ
 loop_number None = no_loop
-loop_number (Block i) = i % 4294967296
+loop_number (Some i) = i % 4294967296
 
 -- The same, read.
-abbrev pub loop_of : ℕ → LoopStart
-loop_of n = pick (eqb n no_loop) None (Block n)
+abbrev pub loop_of : ℕ → Option ℕ
+loop_of n = pick (eqb n no_loop) None (Some n)
 
 -- The file header, with zeros for a channel that is not in use.
 unfoldable pub file_kept : List ℕ → (count : ℕ) → List ℕ
@@ -50,7 +50,7 @@ unfoldable pub offsets_kept : (blocks : ℕ) (offsets : List ℕ) → List ℕ
 offsets_kept n os = flat_map be32 (take n os) ++ replicate (4 * (block_limit - n)) 0
 
 -- The record of a slot that was opened, by its parts: file header, count of blocks, loop start, the blocks' offsets.
-unfoldable pub opened_parts : List ℕ → (count blocks : ℕ) → LoopStart → (offsets : List ℕ) → List ℕ
+unfoldable pub opened_parts : List ℕ → (count blocks : ℕ) → Option ℕ → (offsets : List ℕ) → List ℕ
 opened_parts s count n start os = ((file_kept s count ++ be32 n) ++ be32 (loop_number start)) ++ offsets_kept n os
 
 -- The same of a record.
@@ -83,6 +83,10 @@ part_in kept from to =
       offsets = offsets_in kept from (lesser to (u32_at kept file_header_size)) block_limit 0;
       loop_start = loop_of (u32_at kept 132);
     })))))
+
+-- The same where the bytes hold a record, which is one of a channel or two.
+abbrev pub where_opened : HpsReader → Result HpsReader Failure
+where_opened r = pick (eqb r.count 0) (Err NoRecord) (Ok r)
 
 -- The whole record that bytes stand for.
 abbrev pub reader_in : List ℕ → HpsReader

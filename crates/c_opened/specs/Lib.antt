@@ -1,1 +1,2 @@
 pub mod KeptReader
+pub mod Failures

@@ -1,6 +1,7 @@
 // The opening record in lent bytes, as a program in C or Rust keeps it.
 #![tactic(auto)]
 
+pub mod failure; // failure.rt: why a call gives nothing, and its number
 pub mod fields; // fields.rt: a u64 put into a lent record
 pub mod opened; // opened.rt: the opening record in bytes
 pub mod put; // put.rt: the opening record put into lent bytes

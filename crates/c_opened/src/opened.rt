@@ -1,14 +1,14 @@
 // The opening record in bytes: the file header, with zeros for a channel that is not in use; the count of blocks; the loop start, 4,294,967,295 for none; the offsets of 512 blocks.
-ghost use Rattle.std.specs.Prelude.{◌≡◌, ◌≤◌, length};
+ghost use Rattle.std.specs.Prelude.{◌≡◌, ◌≤◌, IfOk, length};
 ghost use Rattle.reader.specs.OpeningAndReading.{Readable};
-ghost use Rattle.c_opened.specs.KeptReader.{loop_of, offsets_in, lesser, part_in, ReadBack};
+ghost use Rattle.c_opened.specs.KeptReader.{loop_of, offsets_in, part_in, where_opened, ReadBack};
 ghost use Rattle.layout.specs.Refusals.{block_limit};
 
-use layout::answers::ReadAnswer;
+use crate::failure::Failure;
 use layout::limits::{BLOCK_LIMIT, FILE_HEADER_SIZE};
 use layout_number_or_zero::word;
 use layout_read::channels::read_channel;
-use reader::{HpsReader, LoopStart, no_reader};
+use reader::HpsReader;
 
 pub const BLOCKS_AT: usize = FILE_HEADER_SIZE;
 
@@ -22,13 +22,13 @@ pub const OPENED_SIZE: usize = OFFSETS_AT + OFFSETS_SIZE;
 
 pub const NO_LOOP: u32 = 0xFFFF_FFFF;
 
-fn loop_of(number: u32) -> LoopStart
+fn loop_of(number: u32) -> Option<usize>
     ensures { result ≡ loop_of number }
 {
     if number == NO_LOOP {
-        LoopStart::None
+        None
     } else {
-        LoopStart::Block(number as usize)
+        Some(number as usize)
     }
 }
 
@@ -38,61 +38,42 @@ fn offsets_in(kept: &[u8], from: usize, to: usize) -> [u32; BLOCK_LIMIT]
     ensures { result ≡ offsets_in kept.now from to block_limit 0 }
 {
     let mut offsets = [0u32; BLOCK_LIMIT];
-    let mut i = from;
-    while i < to {
+    for i in from..to {
         offsets[i] = word(kept, OFFSETS_AT + 4 * i);
-        i += 1;
     }
     offsets
 }
 
-fn least(a: usize, b: usize) -> usize
-    ensures value { result ≡ lesser a b }
-    ensures upper_bound { result ≤ b }
-{
-    if a < b { a } else { b }
-}
-
-// The record that lent bytes hold, one of no channel where they hold none. Whatever they are, it meets the premise of the reading calls.
+// The record that lent bytes hold, if they hold one of a channel or two. Whatever they are, it meets the premise of the reading calls.
 // Of the offsets it has those of the blocks from one to another, which are all that the call needs.
-pub fn reader_in(kept: &[u8], from: usize, to: usize) -> HpsReader
-    ensures value { result ≡ part_in kept.now from to }
-    ensures readable { Readable result }
+pub fn reader_in(kept: &[u8], from: usize, to: usize) -> Result<HpsReader, Failure>
+    ensures value { result ≡ where_opened (part_in kept.now from to) }
+    ensures readable { IfOk result Readable }
 {
     if kept.len() < OPENED_SIZE {
-        return no_reader();
+        return Err(Failure::NoRecord);
     }
     let count = word(kept, 12) as usize;
     let blocks = word(kept, BLOCKS_AT) as usize;
-    if count > 2 {
-        return no_reader();
+    if count == 0 || count > 2 || blocks > BLOCK_LIMIT {
+        return Err(Failure::NoRecord);
     }
-    if blocks > BLOCK_LIMIT {
-        return no_reader();
-    }
-    let left = read_channel(kept, 16);
-    let answer = left.answer;
-    let ReadAnswer::Value = answer else {
-        return no_reader();
+    let Ok(left) = read_channel(kept, 16) else {
+        return Err(Failure::NoRecord);
     };
-    let right = read_channel(kept, 72);
-    let answer = right.answer;
-    let ReadAnswer::Value = answer else {
-        return no_reader();
+    let Ok(right) = read_channel(kept, 72) else {
+        return Err(Failure::NoRecord);
     };
-    let l = left.channel;
-    let r = right.channel;
-    let channels = [l, r];
-    let offsets = offsets_in(kept, from, least(to, blocks));
+    let offsets = offsets_in(kept, from, to.min(blocks));
     let loop_start = loop_of(word(kept, LOOP_AT));
-    HpsReader {
+    Ok(HpsReader {
         rate: word(kept, 8),
         count,
-        channels,
+        channels: [left, right],
         blocks,
         offsets,
         loop_start,
-    }
+    })
 }
 
 // What put_opened puts for an opening's record, reader_in reads back.

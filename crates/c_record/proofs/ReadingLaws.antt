@@ -1,34 +1,18 @@
--- Kinds of cues; coefficients and cues read one after the other.
+-- Coefficients and cues read one after the other.
 use Prim.Native.Nat.{ℕ, zero, suc, ◌+◌, ◌*◌, ◌-◌, ◌≤◌, ◌<◌}
 use mathlib.Core.Path.{◌≡◌, refl, sym, ap, ◌∙◌}
 use mathlib.Core.List.{List, [], ◌∷◌, ◌++◌, append-nil}
 use native.Mathlib.Omega.{arith}
 use native.Mathlib.Numerals.{add-one}
-use borrow.Author.Tests.{eq-eqb, ne_eqb}
-use lib.ListN.{length, set, replicate, length-append, length-replicate}
+use lib.ListN.{length, set, take, drop, replicate, length-append, length-replicate}
 use lib.Seq.{set_at, append_snoc}
+use Rattle.std.proofs.lemmas.List.{take-replicate, drop-replicate}
 use lib.IntN.{ℤ, pos}
 use Rattle.writer.specs.Calls.{no_cue}
 use Rattle.writer.specs.declared.Cue.{Cue}
-use Rattle.writer.specs.declared.CueKind.{CueKind}
 use Rattle.layout_number_or_zero.specs.NumberOrZero.{signed_at}
-use Rattle.c_record.specs.KeptSides.{kind_of, signed_from, cue_in, cues_kept, table_in}
+use Rattle.c_record.specs.KeptSides.{signed_from, cue_in, cues_kept, table_in}
 use Rattle.layout.specs.Refusals.{cue_limit}
-
--- ---- Kinds
-
-module _ (n r : ℕ) where
-  pub kind_point : n ≡ 0 → CueKind.Point ≡ kind_of n r
-  unfolding kind_of
-  kind_point e = rw (eq-eqb n 0 e)
-
-  pub kind_loop : n ≡ 1 → CueKind.Loop ≡ kind_of n r
-  unfolding kind_of
-  kind_loop e = rw (ne_eqb n 0 (λ z. (let q : ◌≡◌ {A = ℕ} 0 1 = sym z ∙ e in omega arith)), eq-eqb n 1 e)
-
-  pub kind_range : (n ≡ 0 → ⊥) → (n ≡ 1 → ⊥) → CueKind.Range r ≡ kind_of n r
-  unfolding kind_of
-  kind_range h g = rw (ne_eqb n 0 h, ne_eqb n 1 g)
 
 -- ---- Things of one size, one after the other
 
@@ -99,19 +83,29 @@ module _ (s : List ℕ) where
   unfolding cues_kept
   cues-more at n = refl
 
-  -- of a table of zeros the first i are read
-  abbrev pub Cues : (at : ℕ) (cs : List Cue) (i : ℕ) → Type 0
-  Cues = Reading no_cue cue_limit 24 (cue_in s) (cues_kept s) cues-none cues-more
+  -- of n zero cues the first i are read
+  abbrev pub Cues : (n at : ℕ) (cs : List Cue) (i : ℕ) → Type 0
+  Cues n = Reading no_cue n 24 (cue_in s) (cues_kept s) cues-none cues-more
 
-  pub cues-start : (at : ℕ) → Cues at (replicate cue_limit no_cue) 0
-  cues-start = reading_none no_cue cue_limit 24 (cue_in s) (cues_kept s) cues-none cues-more
+  module _ (n at : ℕ) (h : n ≤ cue_limit) where
+    zeros-length : length (take n (replicate cue_limit no_cue)) ≡ n
+    zeros-length = rw (take-replicate n cue_limit no_cue h) (length-replicate n no_cue)
 
-  pub cues_again : (at : ℕ) (cs : List Cue) (i : ℕ) (c : Cue) → Cues at cs i → i < cue_limit → c ≡ cue_in s (at + 24 * i) → Cues at (set cs i c) (i + 1)
-  cues_again = reading_more no_cue cue_limit 24 (cue_in s) (cues_kept s) cues-none cues-more
+    pub cues-start : Cues n at (take n (replicate cue_limit no_cue)) 0
+    cues-start = rw (take-replicate n cue_limit no_cue h) (reading_none no_cue n 24 (cue_in s) (cues_kept s) cues-none cues-more at)
 
-  pub cues_end : (at : ℕ) (cs : List Cue) (i n : ℕ) → Cues at cs i → i ≡ n → cs ≡ table_in s at n
-  unfolding table_in
-  cues_end at cs i n r e = r.is ∙ rw e
+    pub cues_again : (cs : List Cue) (i : ℕ) (c : Cue) → Cues n at cs i → i < length (take n (replicate cue_limit no_cue)) → c ≡ cue_in s (at + 24 * i) → Cues n at (set cs i c) (i + 1)
+    cues_again cs i c r l e = reading_more no_cue n 24 (cue_in s) (cues_kept s) cues-none cues-more at cs i c r (rw zeros-length at l) e
+
+    -- with the zeros that are left they are the table
+    pub cues_end : (cs : List Cue) (i : ℕ) → Cues n at cs i → length (take n (replicate cue_limit no_cue)) ≤ i → cs ++ drop n (replicate cue_limit no_cue) ≡ table_in s at n
+    unfolding table_in
+    cues_end cs i r l =
+        let m : n ≤ i = rw zeros-length at l in
+        let e : i ≡ n = omega (arith, r.few) in
+        let z : n - n ≡ 0 = omega arith in
+        let w : cs ≡ cues_kept s at n = r.is ∙ rw (e, z) (append-nil (cues_kept s at n)) in
+        rw (w, drop-replicate n cue_limit no_cue)
 
   pub table-length : (at n : ℕ) → n ≤ cue_limit → length (table_in s at n) ≡ cue_limit
   unfolding table_in

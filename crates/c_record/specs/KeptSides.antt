@@ -1,7 +1,9 @@
 -- What a push says of a channel, and a cue of the table, in lent bytes. A number that is not wholly there is 0.
-use Rattle.std.specs.Prelude.{ℕ, zero, suc, ◌+◌, ◌-◌, ◌*◌, Bool, List, [], ◌∷◌, ◌++◌, length, replicate, ltb, eqb, ℤ}
+use Rattle.std.specs.Prelude.{ℕ, zero, suc, ◌+◌, ◌-◌, ◌*◌, Bool, List, [], ◌∷◌, ◌++◌, length, replicate, ltb, eqb, ℤ, Result, Ok, Err}
 use Rattle.layout.specs.Choice.{pick, ◌or◌, ◌and◌}
 use Rattle.layout.specs.Refusals.{cue_limit}
+use Rattle.c_opened.specs.declared.failure.Failure.{Failure}
+use Rattle.c_opened.specs.declared.failure.Failure.TheVariants.{NoKind}
 use Rattle.writer.specs.Calls.{no_cue}
 use Rattle.writer.specs.declared.ChannelBlock.{ChannelBlock}
 use Rattle.writer.specs.declared.Cue.{Cue}
@@ -57,6 +59,10 @@ unfoldable pub sides_short : (channels : ℕ) (left right : List ℕ) → Bool
 sides_short ch l r = ltb (length l) side_size or (eqb ch 2 and ltb (length r) side_size)
 
 -- ---- A cue
+
+-- This of a number from 0 to 2: there are three kinds of cues, and three looping modes.
+abbrev pub where_kind : {A : Type 0} → (number : ℕ) → A → Result A Failure
+where_kind n x = pick (ltb 2 n) (Err NoKind) (Ok x)
 
 -- 0 a point, 1 a loop, any other number a range of this length.
 unfoldable pub kind_of : (number range : ℕ) → CueKind

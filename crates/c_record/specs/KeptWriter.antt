@@ -1,5 +1,5 @@
 -- The writer's record in lent bytes: the record that bytes stand for.
-use Rattle.std.specs.Prelude.{ℕ, ◌+◌, ◌*◌, Bool, true, false, not, List, length, ltb, leb, eqb}
+use Rattle.std.specs.Prelude.{ℕ, ◌+◌, ◌*◌, Bool, true, false, not, List, length, ltb, leb, eqb, Result, Ok, Err}
 use Rattle.layout.specs.Choice.{pick, ◌and◌}
 use Rattle.layout.specs.Refusals.{block_limit, slot_limit, cue_limit, length_limit}
 use Rattle.writer.specs.Loading.{by_mode, mode_of}
@@ -10,6 +10,8 @@ use Rattle.writer.specs.declared.HpsWriter.{HpsWriter}
 use Rattle.writer_assign_cues.specs.Taking.{tallied}
 use Rattle.writer.specs.Push.{count_taken, cues_taken}
 use Rattle.writer_assign_cues.specs.declared.Taken.{Taken}
+use Rattle.c_opened.specs.declared.failure.Failure.{Failure}
+use Rattle.c_opened.specs.declared.failure.Failure.TheVariants.{NoRecord}
 use Rattle.c_record.specs.Fields.{fields_of, writer_of}
 use Rattle.c_record.specs.declared.Fields.{Fields}
 use Rattle.layout_number_or_zero.specs.NumberOrZero.{word_at, long_at}
@@ -27,20 +29,20 @@ loop_offset n = pick (eqb n nowhere) LoopAt.Nowhere (LoopAt.At n)
 unfoldable pub fields_in : List ℕ → Fields
 fields_in kept =
     record {
-      slot = long_at kept 0;
-      channels = long_at kept 8;
-      mode = mode_of (word_at kept 72);
+      setup = record { slot = long_at kept 0; channels = long_at kept 8; mode = mode_of (word_at kept 72) };
       count = long_at kept 16;
-      next = long_at kept 24;
-      id = word_at kept 76;
-      base = long_at kept 32;
-      offset = long_at kept 40;
-      loopat = loop_offset (long_at kept 64);
-      blocks = long_at kept 48;
-      sum = long_at kept 56;
-      left = side_in kept left_at;
-      right = side_in kept right_at;
-      last = not (eqb (word_at kept 80) 0);
+      stream = record {
+        next = long_at kept 24;
+        id = word_at kept 76;
+        base = long_at kept 32;
+        offset = long_at kept 40;
+        loopat = loop_offset (long_at kept 64);
+        blocks = long_at kept 48;
+        sum = long_at kept 56;
+        left = side_in kept left_at;
+        right = side_in kept right_at;
+        last = not (eqb (word_at kept 80) 0);
+      };
       finished = not (eqb (word_at kept 84) 0);
     }
 
@@ -64,10 +66,10 @@ loops_within (LoopAt.At n) offset = leb n offset
 -- Whether the numbers can be those of a record that a loading call gives.
 unfoldable pub sensible : Fields → Bool
 sensible s =
-    places_good s.slot s.offset s.count s.next s.id
-    and (sums_good s.blocks s.base s.sum
-    and (marks_good s.blocks s.last s.finished
-    and loops_within s.loopat s.offset))
+    places_good s.setup.slot s.stream.offset s.count s.stream.next s.stream.id
+    and (sums_good s.stream.blocks s.stream.base s.stream.sum
+    and (marks_good s.stream.blocks s.stream.last s.finished
+    and loops_within s.stream.loopat s.stream.offset))
 
 -- The record without its table; that of a refused begin, of a slot of no bytes, where the bytes hold none.
 unfoldable pub stream_in : List ℕ → Fields
@@ -76,6 +78,10 @@ stream_in kept = pick (leb loader_size (length kept) and sensible (fields_in kep
 -- The whole record: its table stands after the rest.
 abbrev pub writer_in : List ℕ → HpsWriter
 writer_in kept = writer_of (table_in kept cues_at (stream_in kept).count) (stream_in kept)
+
+-- This of the record, where the bytes hold one: a record of a slot that has bytes.
+abbrev pub where_held : {A : Type 0} → Fields → A → Result A Failure
+where_held s x = pick (eqb s.setup.slot 0) (Err NoRecord) (Ok x)
 
 -- ---- Its table
 

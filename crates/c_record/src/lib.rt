@@ -6,31 +6,21 @@ pub mod places; // places.rt: where the fields of the writer's record lie
 
 ghost use Rattle.std.specs.Prelude.{◌≡◌, ◌<◌, ◌≤◌};
 ghost use Rattle.layout.specs.Refusals.{cue_limit};
-ghost use Rattle.c_record.specs.KeptSides.{signed_from, side_in, sides_short, kind_of, cue_in, table_in};
+ghost use Rattle.c_record.specs.KeptSides.{signed_from, side_in, sides_short, where_kind, kind_of, cue_in, table_in};
 
 use crate::places::{CUE_SIZE, SIDE_SIZE};
+use c_opened::failure::Failure;
 use layout::FrameContext;
 use layout::limits::CUE_LIMIT;
 use layout_number_or_zero::{half, long, signed, word};
-use writer::{ChannelBlock, Cue, CueKind, LoopAt, Looping};
+use writer::{ChannelBlock, Cue, CueKind, Setup, Stream};
 
-// The fields of the writer's record but its table, as they lie in its bytes.
+// The writer's record but its table, which stands after the rest in its bytes: of the table how many cues it holds.
 #[derive(Clone, Copy)]
 pub struct Fields {
-    pub slot: usize,
-    pub channels: usize,
-    pub mode: Looping,
+    pub setup: Setup,
     pub count: usize,
-    pub next: usize,
-    pub id: u32,
-    pub base: u64,
-    pub offset: usize,
-    pub loopat: LoopAt,
-    pub blocks: usize,
-    pub sum: u64,
-    pub left: ChannelBlock,
-    pub right: ChannelBlock,
-    pub last: bool,
+    pub stream: Stream,
     pub finished: bool,
 }
 
@@ -39,14 +29,13 @@ fn coefficients_in(s: &[u8], at: usize) -> [i16; 16]
     ensures { result ≡ signed_from s.now at 16 }
 {
     let mut coefficients = [0i16; 16];
-    let mut i: usize = 0;
-    while i < 16 {
-        coefficients[i] = signed(s, at + 2 * i);
-        i += 1;
+    for (i, coefficient) in coefficients.iter_mut().enumerate() {
+        *coefficient = signed(s, at + 2 * i);
     }
     coefficients
 }
 
+#[tactic(auto, unfolding(crate::specs::KeptSides::side_in))]
 pub fn side_in(s: &[u8], at: usize) -> ChannelBlock
     requires { at < 4096 }
     ensures { (result ≡ side_in s.now at) × (result.length < 4294967296) }
@@ -67,34 +56,34 @@ pub fn side_in(s: &[u8], at: usize) -> ChannelBlock
 }
 
 // Whether a side of a channel of the push has too few bytes. In mono the right side counts for nothing.
+#[tactic(auto, unfolding(crate::specs::KeptSides::sides_short))]
 pub fn sides_short(channels: usize, left: &[u8], right: &[u8]) -> bool
     ensures { result ≡ sides_short channels left.now right.now }
 {
-    if left.len() < SIDE_SIZE {
-        return true;
-    }
-    if channels != 2 {
-        return false;
-    }
-    right.len() < SIDE_SIZE
+    left.len() < SIDE_SIZE || (channels == 2 && right.len() < SIDE_SIZE)
 }
 
-// 0 a point, 1 a loop, any other number a range.
-pub fn kind_of(number: u32, range: u64) -> CueKind
-    ensures { result ≡ kind_of number range }
+// 0 a point, 1 a loop, 2 a range of this length.
+#[tactic(auto, unfolding(crate::specs::KeptSides::kind_of))]
+pub fn kind_of(number: u32, range: u64) -> Result<CueKind, Failure>
+    ensures { result ≡ where_kind number (kind_of number range) }
 {
     match number {
-        0 => CueKind::Point,
-        1 => CueKind::Loop,
-        _ => CueKind::Range(range),
+        0 => Ok(CueKind::Point),
+        1 => Ok(CueKind::Loop),
+        2 => Ok(CueKind::Range(range)),
+        _ => Err(Failure::NoKind),
     }
 }
 
+// A number that is no kind's stands for a range.
+#[tactic(auto, unfolding(crate::specs::KeptSides::cue_in, crate::specs::KeptSides::kind_of))]
 fn cue_in(s: &[u8], at: usize) -> Cue
     requires { at < 20000 }
     ensures { result ≡ cue_in s.now at }
 {
-    let kind = kind_of(word(s, at + 16), long(s, at + 8));
+    let range = long(s, at + 8);
+    let kind = kind_of(word(s, at + 16), range).unwrap_or(CueKind::Range(range));
     Cue {
         start: long(s, at),
         kind,
@@ -113,11 +102,8 @@ pub fn cues_in(s: &[u8], at: usize, n: usize) -> [Cue; CUE_LIMIT]
         name: 0,
     };
     let mut cues = [none; CUE_LIMIT];
-    let mut i: usize = 0;
-    while i < n {
-        let cue = cue_in(s, at + CUE_SIZE * i);
-        cues[i] = cue;
-        i += 1;
+    for (i, cue) in cues[..n].iter_mut().enumerate() {
+        *cue = cue_in(s, at + CUE_SIZE * i);
     }
     cues
 }

@@ -4,11 +4,10 @@ ghost use Rattle.std.proofs.Math.Seq.{slice};
 ghost use Rattle.layout.specs.Records.{padded_size};
 ghost use Rattle.layout.specs.Puts.{put_at};
 ghost use Rattle.writer.specs.Loading.{any_loop, mode_of};
-ghost use Rattle.writer.specs.Calls.{blank};
-ghost use Rattle.c_record.specs.Fields.{setup_of, stream_of, fields_with, fields_of};
-ghost use Rattle.c_record.specs.KeptWriter.{loop_offset, fields_in, places_good, sums_good, marks_good, loops_within, sensible, stream_in, writer_in, taken_in, held_in};
+ghost use Rattle.c_record.specs.Fields.{fields_of};
+ghost use Rattle.c_record.specs.KeptWriter.{loop_offset, fields_in, places_good, sums_good, marks_good, loops_within, sensible, stream_in, writer_in, where_held, taken_in, held_in};
 ghost use Rattle.writer_assign_cues.specs.Taking.{filled_bytes, Taking};
-ghost use Rattle.c_record.specs.KeptSides.{table_in, cues_at};
+ghost use Rattle.c_record.specs.KeptSides.{table_in, cues_at, where_kind};
 ghost use Rattle.layout.specs.Refusals.{cue_limit};
 
 use crate::places::{
@@ -16,26 +15,28 @@ use crate::places::{
     LOADER_SIZE, LOOP_AT, MODE_AT, NEXT_AT, OFFSET_AT, RIGHT_AT, SLOT_AT, SUM_AT,
 };
 use crate::{Fields, cues_in, side_in};
-use layout::FrameContext;
+use c_opened::failure::Failure;
 use layout::limits::{BLOCK_LIMIT, CUE_LIMIT, LENGTH_LIMIT, SLOT_LIMIT};
 use layout_number_or_zero::{long, word};
-use writer::{ChannelBlock, CueTable, HpsWriter, LoopAt, Looping, Setup, Stream};
+use writer::{CueTable, HpsWriter, LoopAt, Looping, Setup, Stream};
 use writer_assign_cues::{Taken, any_loop, put_taken, take};
 
 // No block of the stream is the loop block.
 const NOWHERE: u64 = 0xFFFF_FFFF_FFFF_FFFF;
 
-// 0 Disabled, 1 Enabled, any other number Auto.
-pub fn mode_of(number: u32) -> Looping
-    ensures { result ≡ mode_of number }
+// 0 Disabled, 1 Enabled, 2 Auto.
+pub fn mode_of(number: u32) -> Result<Looping, Failure>
+    ensures { result ≡ where_kind number (mode_of number) }
 {
     match number {
-        0 => Looping::Disabled,
-        1 => Looping::Enabled,
-        _ => Looping::Auto,
+        0 => Ok(Looping::Disabled),
+        1 => Ok(Looping::Enabled),
+        2 => Ok(Looping::Auto),
+        _ => Err(Failure::NoKind),
     }
 }
 
+#[tactic(auto, unfolding(crate::specs::KeptWriter::loop_offset))]
 fn loop_of(number: u64) -> LoopAt
     ensures { result ≡ loop_offset number }
 {
@@ -57,25 +58,19 @@ fn loops_within(at: LoopAt, offset: usize) -> bool
 }
 
 // Whether the places in slot and table are within their limits.
+#[tactic(auto, unfolding(crate::specs::KeptWriter::places_good))]
 fn places_good(slot: usize, offset: usize, count: usize, next: usize, id: u32) -> bool
     ensures { result ≡ places_good slot offset count next id }
 {
-    if slot > SLOT_LIMIT {
-        return false;
-    }
-    if offset > slot {
-        return false;
-    }
-    if count > CUE_LIMIT {
-        return false;
-    }
-    if next > count {
-        return false;
-    }
-    id as usize <= next + 1
+    slot <= SLOT_LIMIT
+        && offset <= slot
+        && count <= CUE_LIMIT
+        && next <= count
+        && id as usize <= next + 1
 }
 
 // Whether the sums can be those of so many blocks.
+#[tactic(auto, unfolding(crate::specs::KeptWriter::sums_good))]
 fn sums_good(blocks: usize, base: u64, sum: u64) -> bool
     ensures { result ≡ sums_good blocks base sum }
 {
@@ -83,55 +78,46 @@ fn sums_good(blocks: usize, base: u64, sum: u64) -> bool
         return false;
     }
     let most = LENGTH_LIMIT as u64 * blocks as u64;
-    if base > most {
-        return false;
-    }
-    if sum > most {
-        return false;
-    }
-    2 * blocks as u64 <= sum
+    base <= most && sum <= most && 2 * blocks as u64 <= sum
 }
 
 // Whether the marks can be those of so many blocks.
+#[tactic(auto, unfolding(crate::specs::KeptWriter::marks_good))]
 fn marks_good(blocks: usize, last: bool, finished: bool) -> bool
     ensures { result ≡ marks_good blocks last finished }
 {
-    if last {
-        return blocks > 0;
-    }
-    !finished
+    if last { blocks > 0 } else { !finished }
 }
 
 // Whether the numbers can be those of a record that a loading call gives.
-fn is_sensible(s: Fields) -> bool
-    ensures { result ≡ sensible s }
+#[tactic(auto, unfolding(crate::specs::KeptWriter::sensible))]
+fn is_sensible(f: Fields) -> bool
+    ensures { result ≡ sensible f }
 {
-    if !places_good(s.slot, s.offset, s.count, s.next, s.id) {
-        return false;
-    }
-    if !sums_good(s.blocks, s.base, s.sum) {
-        return false;
-    }
-    if !marks_good(s.blocks, s.last, s.finished) {
-        return false;
-    }
+    let s = f.stream;
     let loopat = s.loopat;
-    loops_within(loopat, s.offset)
+    places_good(f.setup.slot, s.offset, f.count, s.next, s.id)
+        && sums_good(s.blocks, s.base, s.sum)
+        && marks_good(s.blocks, s.last, f.finished)
+        && loops_within(loopat, s.offset)
 }
 
 // The numbers of the record as they stand there.
+#[tactic(auto, unfolding(crate::specs::KeptWriter::fields_in))]
 fn fields_in(kept: &[u8]) -> Fields
     ensures { result ≡ fields_in kept.now }
 {
-    let mode = mode_of(word(kept, MODE_AT));
-    let loopat = loop_of(long(kept, LOOP_AT));
-    let left = side_in(kept, LEFT_AT);
-    let right = side_in(kept, RIGHT_AT);
-    Fields {
+    // A number that is no mode's stands for Auto.
+    let mode = mode_of(word(kept, MODE_AT)).unwrap_or(Looping::Auto);
+    let setup = Setup {
         slot: long(kept, SLOT_AT) as usize,
         channels: long(kept, CHANNELS_AT) as usize,
         mode,
-        count: long(kept, COUNT_AT) as usize,
+    };
+    let loopat = loop_of(long(kept, LOOP_AT));
+    let left = side_in(kept, LEFT_AT);
+    let right = side_in(kept, RIGHT_AT);
+    let stream = Stream {
         next: long(kept, NEXT_AT) as usize,
         id: word(kept, ID_AT),
         base: long(kept, BASE_AT),
@@ -142,161 +128,71 @@ fn fields_in(kept: &[u8]) -> Fields
         left,
         right,
         last: word(kept, LAST_AT) != 0,
+    };
+    Fields {
+        setup,
+        count: long(kept, COUNT_AT) as usize,
+        stream,
         finished: word(kept, FINISHED_AT) != 0,
     }
 }
 
-// The record of a refused begin, of a slot of no bytes: it stands for bytes that hold no record.
-fn no_stream() -> Fields
-    ensures { result ≡ fields_of blank }
-{
-    let side = ChannelBlock {
-        rate: 0,
-        length: 0,
-        coefficients: [0i16; 16],
-        gain: 0,
-        context: FrameContext {
-            predictor_and_scale: 0,
-            last: 0,
-            oldest: 0,
-        },
-    };
-    Fields {
-        slot: 0,
-        channels: 0,
-        mode: Looping::Disabled,
-        count: 0,
-        next: 0,
-        id: 0,
-        base: 0,
-        offset: 0,
-        loopat: LoopAt::Nowhere,
-        blocks: 0,
-        sum: 0,
-        left: side,
-        right: side,
-        last: false,
-        finished: false,
-    }
-}
-
-// The record that lent bytes hold, without its table.
-pub fn stream_in(kept: &[u8]) -> Fields
-    ensures { result ≡ stream_in kept.now }
+// The record that lent bytes hold, without its table. Where they hold one it is one of a slot that has bytes.
+pub fn stream_in(kept: &[u8]) -> Result<Fields, Failure>
+    ensures { result ≡ where_held (stream_in kept.now) (stream_in kept.now) }
 {
     if kept.len() < LOADER_SIZE {
-        return no_stream();
+        return Err(Failure::NoRecord);
     }
-    let s = fields_in(kept);
-    if is_sensible(s) { s } else { no_stream() }
-}
-
-pub fn setup_of(s: Fields) -> Setup
-    ensures { result ≡ setup_of s }
-{
-    let mode = s.mode;
-    Setup {
-        slot: s.slot,
-        channels: s.channels,
-        mode,
+    let f = fields_in(kept);
+    if f.setup.slot > 0 && is_sensible(f) {
+        Ok(f)
+    } else {
+        Err(Failure::NoRecord)
     }
 }
 
-pub fn stream_of(s: Fields) -> Stream
-    ensures { result ≡ stream_of s }
-{
-    let loopat = s.loopat;
-    let left = s.left;
-    let right = s.right;
-    Stream {
-        next: s.next,
-        id: s.id,
-        base: s.base,
-        offset: s.offset,
-        loopat,
-        blocks: s.blocks,
-        sum: s.sum,
-        left,
-        right,
-        last: s.last,
+impl From<HpsWriter> for Fields {
+    ghost from_gives = { λ w f. f ≡ fields_of w };
+
+    fn from(w: HpsWriter) -> Fields {
+        let setup = w.setup;
+        let stream = w.stream;
+        Fields {
+            setup,
+            count: w.table.count,
+            stream,
+            finished: w.finished,
+        }
     }
 }
 
-// The fields with another stream.
-pub fn with_stream(f: Fields, s: Stream) -> Fields
-    ensures { result ≡ fields_with f s }
+// The whole record that lent bytes hold. Whatever they are, it meets the premise of the loading calls.
+pub fn writer_in(kept: &[u8]) -> Result<HpsWriter, Failure>
+    ensures { result ≡ where_held (stream_in kept.now) (writer_in kept.now) }
 {
-    let loopat = s.loopat;
-    let left = s.left;
-    let right = s.right;
-    Fields {
-        next: s.next,
-        id: s.id,
-        base: s.base,
-        offset: s.offset,
-        loopat,
-        blocks: s.blocks,
-        sum: s.sum,
-        left,
-        right,
-        last: s.last,
-        ..f
-    }
-}
-
-// The fields of a record.
-pub fn fields_of(w: HpsWriter) -> Fields
-    ensures { result ≡ fields_of w }
-{
-    let setup = w.setup;
-    let mode = setup.mode;
-    let s = w.stream;
-    let loopat = s.loopat;
-    let left = s.left;
-    let right = s.right;
-    Fields {
-        slot: setup.slot,
-        channels: setup.channels,
-        mode,
-        count: w.table.count,
-        next: s.next,
-        id: s.id,
-        base: s.base,
-        offset: s.offset,
-        loopat,
-        blocks: s.blocks,
-        sum: s.sum,
-        left,
-        right,
-        last: s.last,
-        finished: w.finished,
-    }
-}
-
-// The whole record. Whatever the bytes are, it meets the premise of the loading calls.
-pub fn writer_in(kept: &[u8]) -> HpsWriter
-    ensures { result ≡ writer_in kept.now }
-{
-    let s = stream_in(kept);
-    let setup = setup_of(s);
-    let stream = stream_of(s);
-    let cues = cues_in(kept, CUES_AT, s.count);
-    HpsWriter {
+    let f = stream_in(kept)?;
+    let setup = f.setup;
+    let stream = f.stream;
+    let cues = cues_in(kept, CUES_AT, f.count);
+    Ok(HpsWriter {
         setup,
         table: CueTable {
             cues,
-            count: s.count,
+            count: f.count,
         },
         stream,
-        finished: s.finished,
-    }
+        finished: f.finished,
+    })
 }
 
 // The cues that a block takes of the table: where none is left the table is not looked into.
-pub fn take_kept(kept: &[u8], from: usize, count: usize, end: u64, last: bool) -> Taken
-    requires { (from ≤ count) × (count ≤ cue_limit) }
-    ensures { result ≡ taken_in kept.now from count end last }
+pub fn take_kept(kept: &[u8], f: Fields, end: u64, last: bool) -> Taken
+    requires { (f.stream.next ≤ f.count) × (f.count ≤ cue_limit) }
+    ensures { result ≡ taken_in kept.now f.stream.next f.count end last }
 {
+    let from = f.stream.next;
+    let count = f.count;
     if from == count {
         return Taken {
             to: from,
@@ -309,43 +205,31 @@ pub fn take_kept(kept: &[u8], from: usize, count: usize, end: u64, last: bool) -
 }
 
 // Whether the table has a Loop, as far as that counts: under Enabled, before there is a loop block.
-pub fn held_kept(kept: &[u8], mode: Looping, loopat: LoopAt, count: usize) -> bool
-    requires { count ≤ cue_limit }
-    ensures { result ≡ held_in mode loopat (any_loop (slice 0 count (table_in kept.now cues_at count))) }
+#[tactic(auto, unfolding(crate::specs::KeptWriter::held_in))]
+pub fn held_kept(kept: &[u8], f: Fields) -> bool
+    requires { f.count ≤ cue_limit }
+    ensures { result ≡ held_in f.setup.mode f.stream.loopat (any_loop (slice 0 f.count (table_in kept.now cues_at f.count))) }
 {
-    match loopat {
-        LoopAt::At(_) => false,
-        LoopAt::Nowhere => match mode {
-            Looping::Disabled => false,
-            Looping::Auto => false,
-            Looping::Enabled => {
-                let cues = cues_in(kept, CUES_AT, count);
-                any_loop(cues, count)
-            }
-        },
+    match (f.setup.mode, f.stream.loopat) {
+        (Looping::Enabled, LoopAt::Nowhere) => {
+            let cues = cues_in(kept, CUES_AT, f.count);
+            any_loop(cues, f.count)
+        }
+        _ => false,
     }
 }
 
 // The bytes of the cues that a block takes of the table, which is not looked into where there are none.
-pub fn put_taken_kept(
-    buf: &mut [u8],
-    at: usize,
-    kept: &[u8],
-    count: usize,
-    from: usize,
-    to: usize,
-    base: u64,
-    id: u32,
-    points: usize,
-)
-    requires count_le_cue_limit { (count ≤ cue_limit) × (to ≤ cue_limit) × (id + cue_limit < 2 ^ 32) }
-    requires taking { Taking (table_in kept.now cues_at count) from to points }
-    requires points_in_bounds { at + padded_size (8 * points) ≤ length buf.old }
-    ensures { buf.new ≡ put_at buf.old at (filled_bytes base id (slice from to (table_in kept.now cues_at count))) }
+pub fn put_taken_kept(buf: &mut [u8], at: usize, kept: &[u8], f: Fields, taken: Taken)
+    requires count_le_cue_limit { (f.count ≤ cue_limit) × (taken.to ≤ cue_limit) × (f.stream.id + cue_limit < 2 ^ 32) }
+    requires taking { Taking (table_in kept.now cues_at f.count) f.stream.next taken.to taken.points }
+    requires points_in_bounds { at + padded_size (8 * taken.points) ≤ length buf.old }
+    ensures { buf.new ≡ put_at buf.old at (filled_bytes f.stream.base f.stream.id (slice f.stream.next taken.to (table_in kept.now cues_at f.count))) }
 {
-    if points == 0 {
+    if taken.points == 0 {
         return;
     }
-    let cues = cues_in(kept, CUES_AT, count);
-    put_taken(buf, at, cues, from, to, base, id);
+    let cues = cues_in(kept, CUES_AT, f.count);
+    let s = f.stream;
+    put_taken(buf, at, cues, s.next, taken.to, s.base, s.id);
 }

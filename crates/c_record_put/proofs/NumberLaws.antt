@@ -1,7 +1,10 @@
 -- The record's numbers, put piece after piece.
 use Prim.Native.Nat.{ℕ, ◌+◌, ◌≤◌}
 use mathlib.Core.Path.{◌≡◌, refl, ap, ◌∙◌}
-use mathlib.Core.Bool.{Bool}
+use mathlib.Core.Bool.{Bool, true, false}
+use denote.Enum.Declared.{tag_of}
+use mir.Val.{bool_byte}
+use Rattle.writer.specs.contracts.Looping.{the_type}
 use mathlib.Core.List.{List, [], ◌∷◌, ◌++◌, append_assoc, append-nil, flat_map}
 use native.Mathlib.Omega.{arith}
 use lib.ListN.{length, length-append}
@@ -51,6 +54,15 @@ module _ (k k₁ k₂ k₃ : List ℕ) {k₄ : List ℕ} (a b c d : ℕ) (room :
 
 -- ---- The marks
 
+pub mode_tag : (m : Looping) → tag_of the_type m ≡ mode_number m
+mode_tag Looping.Disabled = refl
+mode_tag Looping.Enabled = refl
+mode_tag Looping.Auto = refl
+
+pub flag_is : (b : Bool) → bool_byte b ≡ flag_number b
+flag_is true = refl
+flag_is false = refl
+
 five : (a b c d e : ℕ) → be64 a ++ be32 b ++ be32 c ++ be32 d ++ be32 e ≡ be64 a ++ flat_map be32 (b ∷ c ∷ d ∷ e ∷ [])
 unfolding flat_map
 five a b c d e = simp (append_assoc, append-nil)
@@ -86,11 +98,11 @@ pub numbers_length : (s : Fields) → length (number_bytes s) ≡ left_at
 unfolding number_bytes
 numbers_length s = simp (length-append, places_length, sums_length, marks_length)
 
-pub numbers_put : (k k₁ k₂ : List ℕ) {k₃ : List ℕ} (s : Fields) → left_at ≤ length k → k₁ ≡ put_at k 0 (places_bytes s.slot s.channels s.count s.next)
-    → k₂ ≡ put_at k₁ 32 (sums_bytes s.base s.offset s.blocks s.sum) → k₃ ≡ put_at k₂ 64 (marks_bytes s.loopat s.mode s.id s.last s.finished)
+pub numbers_put : (k k₁ k₂ : List ℕ) {k₃ : List ℕ} (s : Fields) → left_at ≤ length k → k₁ ≡ put_at k 0 (places_bytes s.setup.slot s.setup.channels s.count s.stream.next)
+    → k₂ ≡ put_at k₁ 32 (sums_bytes s.stream.base s.stream.offset s.stream.blocks s.stream.sum) → k₃ ≡ put_at k₂ 64 (marks_bytes s.stream.loopat s.setup.mode s.stream.id s.stream.last s.finished)
     → k₃ ≡ put_at k 0 (number_bytes s)
 unfolding number_bytes
 numbers_put k k₁ k₂ s room e₁ e₂ e₃ =
-    let p : Put k 0 32 (places_bytes s.slot s.channels s.count s.next) _ = record { size = places_length _ _ _ _; is = e₁ } in
-    let q = put_then p (sums_bytes s.base s.offset s.blocks s.sum) (sums_length _ _ _ _) e₂ refl (omega arith) in
-    (put_then q (marks_bytes s.loopat s.mode s.id s.last s.finished) (marks_length _ _ _ _ _) e₃ refl (omega arith)).is
+    let p : Put k 0 32 (places_bytes s.setup.slot s.setup.channels s.count s.stream.next) _ = record { size = places_length _ _ _ _; is = e₁ } in
+    let q = put_then p (sums_bytes s.stream.base s.stream.offset s.stream.blocks s.stream.sum) (sums_length _ _ _ _) e₂ refl (omega arith) in
+    (put_then q (marks_bytes s.stream.loopat s.setup.mode s.stream.id s.stream.last s.finished) (marks_length _ _ _ _ _) e₃ refl (omega arith)).is

@@ -45,19 +45,19 @@ sides_put k k₁ l r room hl hr e₁ e₂ =
 -- ---- The bytes that are put
 
 module _ (k k₁ : List ℕ) (s : Fields) (is : k₁ ≡ put_at k 0 (number_bytes s)) where
-  pub record_put : {k₂ : List ℕ} → cues_at ≤ length k → length s.left.coefficients ≡ 16 → length s.right.coefficients ≡ 16
-      → k₂ ≡ put_at k₁ left_at (side_bytes s.left ++ side_bytes s.right) → k₂ ≡ put_at k 0 (record_bytes s)
+  pub record_put : {k₂ : List ℕ} → cues_at ≤ length k → length s.stream.left.coefficients ≡ 16 → length s.stream.right.coefficients ≡ 16
+      → k₂ ≡ put_at k₁ left_at (side_bytes s.stream.left ++ side_bytes s.stream.right) → k₂ ≡ put_at k 0 (record_bytes s)
   unfolding record_bytes
   record_put room l r e =
       let p : Put k 0 left_at (number_bytes s) k₁ = record { size = numbers_length s; is = is } in
-      let n : length (side_bytes s.left ++ side_bytes s.right) ≡ 96 = length-append (side_bytes s.left) (side_bytes s.right)
-      ∙ omega (arith, side-length s.left l, side-length s.right r) in
-      (put_then p (side_bytes s.left ++ side_bytes s.right) n e refl (omega arith)).is
+      let n : length (side_bytes s.stream.left ++ side_bytes s.stream.right) ≡ 96 = length-append (side_bytes s.stream.left) (side_bytes s.stream.right)
+      ∙ omega (arith, side-length s.stream.left l, side-length s.stream.right r) in
+      (put_then p (side_bytes s.stream.left ++ side_bytes s.stream.right) n e refl (omega arith)).is
 
-  pub first-put : {k₂ : List ℕ} → s.blocks ≡ 1 → k₂ ≡ put_at k 0 (record_bytes s) → k₂ ≡ put_at k 0 (pushed_bytes s)
+  pub first-put : {k₂ : List ℕ} → s.stream.blocks ≡ 1 → k₂ ≡ put_at k 0 (record_bytes s) → k₂ ≡ put_at k 0 (pushed_bytes s)
   unfolding pushed_bytes
-  first-put h e = rw (eq-eqb s.blocks 1 h) e
+  first-put h e = rw (eq-eqb s.stream.blocks 1 h) e
 
-  pub later_put : (s.blocks ≡ 1 → ⊥) → k₁ ≡ put_at k 0 (pushed_bytes s)
+  pub later_put : (s.stream.blocks ≡ 1 → ⊥) → k₁ ≡ put_at k 0 (pushed_bytes s)
   unfolding pushed_bytes
-  later_put h = rw (ne_eqb s.blocks 1 h) is
+  later_put h = rw (ne_eqb s.stream.blocks 1 h) is

@@ -6,6 +6,7 @@ use native.Mathlib.Omega.{arith}
 use native.Mathlib.Numerals.{add-one}
 use lib.ListN.{length, get_or, take, replicate, length-append}
 use lib.Seq.{take-suc, length-take-le}
+use Rattle.std.proofs.lemmas.List.{take_all}
 use Rattle.layout.specs.Lists.{All}
 use Rattle.layout.proofs.ListLaws.{all_snoc}
 use Rattle.layout.specs.Puts.{put_at}
@@ -61,44 +62,46 @@ pub entries_length : (t : List Cue) (n : ℕ) → n ≤ length t → length (ent
 unfolding entries_bytes
 entries_length t n h = flat_map_length (take n t) ∙ ap (λ (m : ℕ). 24 * m) (length-take-le n t h)
 
--- of n cues the first i are put
-pub record Entries (l : List ℕ) (at : ℕ) (t : List Cue) (n : ℕ) (b : List ℕ) (i : ℕ) : Type 0 where
-  pub few : i ≤ n
+-- the first i cues are put
+pub record Entries (l : List ℕ) (at : ℕ) (t : List Cue) (b : List ℕ) (i : ℕ) : Type 0 where
+  pub few : i ≤ length t
   pub long : length b ≡ length l
   pub is : b ≡ put_at l at (entries_bytes t i)
   pub fit : All EntryFits (take i t)
 
-pub entries_none : (l : List ℕ) (at : ℕ) (t : List Cue) (n : ℕ) → Entries l at t n l 0
-unfolding entries_bytes flat_map
-entries_none l at t n = record { few = omega arith; long = refl; is = sym (put_at-none l at); fit = All.none }
+module _ (l : List ℕ) (at : ℕ) (t : List Cue) where
+  pub entries_none : Entries l at t l 0
+  unfolding entries_bytes flat_map
+  entries_none = record { few = omega arith; long = refl; is = sym (put_at-none l at); fit = All.none }
 
-pub entries_more : (l : List ℕ) (at : ℕ) (t : List Cue) (n : ℕ) (b : List ℕ) (i : ℕ) (b' : List ℕ) (z : Cue) → length t ≡ cue_limit → n ≤ cue_limit → at + 24 * n ≤ length l
-    → Entries l at t n b i → i < n → b' ≡ put_at b (at + 24 * i) (entry_bytes (get_or t i z)) → EntryFits (get_or t i z) → Entries l at t n b' (i + 1)
-unfolding entries_bytes
-entries_more l at t n b i b' z len most room inv lt e f =
-    let s : length (flat_map entry_bytes (take i t)) ≡ 24 * i = entries_length t i (omega arith) in
-    let q : flat_map entry_bytes (take (i + 1) t) ≡ flat_map entry_bytes (take i t) ++ entry_bytes (get_or t i z) =
-    ap (λ (m : ℕ). flat_map entry_bytes (take m t)) (add-one i) ∙ ap (flat_map entry_bytes) (take-suc t i z (omega arith)) ∙ flat_map_snoc (take i t) (get_or t i z) in
-    let u : take i t ++ (get_or t i z ∷ []) ≡ take (i + 1) t = sym (ap (λ (m : ℕ). take m t) (add-one i) ∙ take-suc t i z (omega arith)) in
-    let p : Put l at (24 * i) (flat_map entry_bytes (take i t)) b = record { size = s; is = inv.is } in
-    record {
-      few = omega arith;
-      long = ap length e ∙ put_at-length b _ _ ∙ inv.long;
-      is = (put_then p (entry_bytes (get_or t i z)) (entry_length _) e refl (omega arith)).is ∙ ap (put_at l at) (sym q);
-      fit = rw (← u) (all_snoc inv.fit f);
-    }
+  pub entries_more : (b : List ℕ) (i : ℕ) (b' : List ℕ) (z : Cue) → at + 24 * length t ≤ length l
+      → Entries l at t b i → i < length t → b' ≡ put_at b (at + 24 * i) (entry_bytes (get_or t i z)) → EntryFits (get_or t i z) → Entries l at t b' (i + 1)
+  unfolding entries_bytes
+  entries_more b i b' z room inv lt e f =
+      let s : length (flat_map entry_bytes (take i t)) ≡ 24 * i = entries_length t i (omega arith) in
+      let q : flat_map entry_bytes (take (i + 1) t) ≡ flat_map entry_bytes (take i t) ++ entry_bytes (get_or t i z) =
+      ap (λ (m : ℕ). flat_map entry_bytes (take m t)) (add-one i) ∙ ap (flat_map entry_bytes) (take-suc t i z lt) ∙ flat_map_snoc (take i t) (get_or t i z) in
+      let u : take i t ++ (get_or t i z ∷ []) ≡ take (i + 1) t = sym (ap (λ (m : ℕ). take m t) (add-one i) ∙ take-suc t i z lt) in
+      let p : Put l at (24 * i) (flat_map entry_bytes (take i t)) b = record { size = s; is = inv.is } in
+      record {
+        few = omega arith;
+        long = ap length e ∙ put_at-length b _ _ ∙ inv.long;
+        is = (put_then p (entry_bytes (get_or t i z)) (entry_length _) e refl (omega arith)).is ∙ ap (put_at l at) (sym q);
+        fit = rw (← u) (all_snoc inv.fit f);
+      }
 
-pub entries_all : (l : List ℕ) (at : ℕ) (t : List Cue) (n : ℕ) (b : List ℕ) (i : ℕ) → Entries l at t n b i → n ≤ i
-    → (b ≡ put_at l at (entries_bytes t n)) × All EntryFits (take n t)
-entries_all l at t n b i inv h =
-    let e : i ≡ n = omega (arith, inv.few) in
-    (inv.is ∙ ap (λ (m : ℕ). put_at l at (entries_bytes t m)) e, rw e at inv.fit)
+  pub entries_all : (b : List ℕ) (i : ℕ) → Entries l at t b i → length t ≤ i
+      → (b ≡ put_at l at (flat_map entry_bytes t)) × All EntryFits t
+  unfolding entries_bytes
+  entries_all b i inv h =
+      let w : take i t ≡ t = take_all i t h in
+      (inv.is ∙ ap (λ (m : List Cue). put_at l at (flat_map entry_bytes m)) w, rw w at inv.fit)
 
 -- ---- The table
 
-pub table-put : (kept : List ℕ) (t : List Cue) (n : ℕ) {a b : List ℕ} → loader_size ≤ length kept → a ≡ put_long kept 16 n → b ≡ put_at a cues_at (entries_bytes t n) → b ≡ table_put kept t n
-unfolding table_put
-table-put kept t n h e f = f ∙ ap (λ (l : List ℕ). put_at l cues_at (entries_bytes t n)) (e ∙ long-put kept 16 n (omega arith))
+pub table-put : (kept : List ℕ) (t : List Cue) (n : ℕ) {a b : List ℕ} → loader_size ≤ length kept → a ≡ put_long kept 16 n → b ≡ put_at a cues_at (flat_map entry_bytes (take n t)) → b ≡ table_put kept t n
+unfolding table_put entries_bytes
+table-put kept t n h e f = f ∙ ap (λ (l : List ℕ). put_at l cues_at (flat_map entry_bytes (take n t))) (e ∙ long-put kept 16 n (omega arith))
 
 -- ---- What is put is read again
 
@@ -143,7 +146,7 @@ cues-back {s} off (suc n) (c ∷ cs) l (All.more g f) a =
     let y = cues-back {s = s} (off + 24) n cs (omega arith) f (at_move (off + 24) (ap (λ (m : ℕ). off + m) (entry_length c)) (at_right (entry_bytes c) (flat_map entry_bytes cs) a)) in
     rw (x, y)
 
-module _ (kept : List ℕ) (t : List Cue) (n : ℕ) (len : length t ≡ cue_limit) (few : n ≤ cue_limit) (room : loader_size ≤ length kept) where
+module _ (kept : List ℕ) (t : List Cue) (n : ℕ) (len : n ≤ length t) (few : n ≤ cue_limit) (room : loader_size ≤ length kept) where
   fits_count : 16 + length (be64 n) ≤ length kept
   fits_count = omega (arith, be64-length n)
 

@@ -44,5 +44,5 @@ marks_bytes loopat mode id last finished = be64 (loop_offset_number loopat) ++ f
 -- The numbers of the record.
 unfoldable pub number_bytes : Fields → List ℕ
 number_bytes s =
-    (places_bytes s.slot s.channels s.count s.next ++ sums_bytes s.base s.offset s.blocks s.sum)
-    ++ marks_bytes s.loopat s.mode s.id s.last s.finished
+    (places_bytes s.setup.slot s.setup.channels s.count s.stream.next ++ sums_bytes s.stream.base s.stream.offset s.stream.blocks s.stream.sum)
+    ++ marks_bytes s.stream.loopat s.setup.mode s.stream.id s.stream.last s.finished

@@ -18,8 +18,8 @@ side_bytes b =
 
 -- The bytes of the record without its table: numbers and sides.
 unfoldable pub record_bytes : Fields → List ℕ
-record_bytes s = number_bytes s ++ (side_bytes s.left ++ side_bytes s.right)
+record_bytes s = number_bytes s ++ (side_bytes s.stream.left ++ side_bytes s.stream.right)
 
 -- The bytes that are put after a push: the sides after the first block alone.
 unfoldable pub pushed_bytes : Fields → List ℕ
-pushed_bytes s = pick (eqb s.blocks 1) (record_bytes s) (number_bytes s)
+pushed_bytes s = pick (eqb s.stream.blocks 1) (record_bytes s) (number_bytes s)

@@ -16,6 +16,9 @@ use writer::ChannelBlock;
 pub mod numbers; // numbers.rt: the record's numbers
 pub mod table; // table.rt: its table of cues
 
+// How many blocks there are after the first push.
+const FIRST: usize = 1;
+
 fn put_side(buf: &mut [u8], at: usize, side: ChannelBlock)
     requires { (at < 4096) × (at + side_size ≤ length buf.old) }
     ensures { buf.new ≡ put_at buf.old at (side_bytes side) }
@@ -39,14 +42,12 @@ pub fn put_sides(kept: &mut [u8], left: ChannelBlock, right: ChannelBlock)
 }
 
 // The numbers after a push, and after the first the sides: after a later block they stand there already.
-pub fn put_pushed(kept: &mut [u8], s: Fields)
+pub fn put_pushed(kept: &mut [u8], f: Fields)
     requires { cues_at ≤ length kept.old }
-    ensures { kept.new ≡ put_at kept.old 0 (pushed_bytes s) }
+    ensures { kept.new ≡ put_at kept.old 0 (pushed_bytes f) }
 {
-    put_numbers(kept, s);
-    if s.blocks == 1 {
-        let left = s.left;
-        let right = s.right;
-        put_sides(kept, left, right);
+    put_numbers(kept, f);
+    if f.stream.blocks == FIRST {
+        put_sides(kept, f.stream.left, f.stream.right);
     }
 }

@@ -38,18 +38,13 @@ fn long_room() -> [u8; SLOT_LIMIT + 1]
 
 // Prints the channel, and what ended it where that was not its end.
 fn print<W: Write, E: Write>(to: &mut Remembering<W>, err: &mut E, slot: &[u8], channel: usize) {
-    let heard = print_channel(to, slot, channel);
-    if !heard.whole {
-        to.tell(err, b"standard output");
-        return;
-    }
-    let reply = heard.reply;
-    match reply {
-        DecodeReply::Refused(number) => {
-            print_stop(err, number);
+    match print_channel(to, slot, channel) {
+        Err(_) => to.tell(err, b"standard output"),
+        Ok(heard) => {
+            if let DecodeReply::Refused(number) = heard.reply {
+                print_stop(err, number);
+            }
         }
-        DecodeReply::End => {}
-        DecodeReply::Samples(_) => {}
     }
 }
 

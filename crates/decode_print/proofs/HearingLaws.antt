@@ -1,7 +1,7 @@
 -- A channel's samples block by block: from a decoder on, after a call that gave samples, and after one that gave none.
 use Prim.Native.Nat.{ℕ, zero, suc, ◌+◌, ◌-◌, ◌*◌, ◌≤◌, ◌<◌}
 use mathlib.Core.Path.{◌≡◌, refl, sym, ap, ◌∙◌}
-use mathlib.Core.Bool.{true, false}
+use mathlib.Core.Bool.{false}
 use mathlib.Core.List.{List, [], ◌++◌}
 use native.Mathlib.Omega.{arith}
 use lib.ListN.{length, take, drop, length-append, length-drop}
@@ -22,7 +22,8 @@ use Rattle.reader_decode.specs.declared.DecodeReply.{DecodeReply}
 use Rattle.reader_decode.specs.declared.DecodeCall.{DecodeCall}
 use Rattle.reader_decode.proofs.ReadLaws.{Longer, DecodingSays, decoding_says, decoding-room}
 use Rattle.decode_print.specs.declared.Hearing.{Hearing}
-use Rattle.decode_print.specs.Hearing.{most_samples, heard_from, end_from, samples_on, channel_samples, end_on, channel_end, RoomForEach, HeardOf, Before, is_samples, is_short, HeardTo}
+use Rattle.std.specs.Prelude.{Ok}
+use Rattle.decode_print.specs.Hearing.{most_samples, heard_from, end_from, samples_on, channel_samples, end_on, channel_end, RoomForEach, HeardOf, Before, is_samples, is_short, HeardHere}
 
 -- ---- The reply of a call
 
@@ -200,46 +201,30 @@ module _ (s : List ℕ) (r : HpsReader) (ch : ℕ) (d : Decoder) (lent : List �
 not_short : (a : DecodeAnswer) → is_short (reply_of a) ≡ false → a ≡ DecodeAnswer.refused 14 → ⊥
 not_short a h e = let k = rw e at h in apart k
 
-not_both : {A : Type 0} (q : DecodeReply) → is_short q ≡ true → is_samples q ≡ true → A
-not_both (DecodeReply.Refused n) f g = apart (sym g)
-not_both DecodeReply.End f g = apart (sym f)
-not_both (DecodeReply.Samples n) f g = apart (sym f)
-
 -- printed up to a call that gave none: that is all, where that call is the same with places for every block
-module _ {s : List ℕ} {r : HpsReader} {ch places : ℕ} {h : Hearing} (t : HeardTo s r ch places h) where
-  all-heard : (h.whole ≡ true → decoding s r ch h.decoder.position places ≡ decoding s r ch h.decoder.position most_samples)
-      → HeardOf (channel_samples s ch) (channel_end s ch) (record { reply = h.reply; length = h.length; whole = h.whole })
+module _ {s : List ℕ} {r : HpsReader} {ch places : ℕ} {h : Hearing} (t : HeardHere s r ch places h) where
+  all-heard : decoding s r ch h.decoder.position places ≡ decoding s r ch h.decoder.position most_samples
+      → HeardOf (channel_samples s ch) (channel_end s ch) (Ok h.heard)
   all-heard here =
-      let i = h.decoder.position in
-      let same : h.whole ≡ true → h.reply ≡ reply_of (decoding s r ch i most_samples) = λ w. t.reply w ∙ ap reply_of (here w) in
-      let quiet : h.whole ≡ true → is_samples (reply_of (decoding s r ch i most_samples)) ≡ false = λ w. rw (same w) at (t.quiet w) in
-      record {
-        most = t.most;
-        all = λ w. all_printed (t.before w) (quiet w);
-        ends = λ w. same w ∙ sym (ends_so (t.before w) (quiet w));
-      }
+      let same : h.heard.reply ≡ reply_of (decoding s r ch h.decoder.position most_samples) = t.reply ∙ ap reply_of here in
+      let quiet = rw same at t.quiet in
+      (all_printed t.before quiet, same ∙ sym (ends_so t.before quiet))
 
   -- with places for every block
-  pub heard-long : places ≡ most_samples → HeardOf (channel_samples s ch) (channel_end s ch) (record { reply = h.reply; length = h.length; whole = h.whole })
-  heard-long e = all-heard (λ w. ap (decoding s r ch h.decoder.position) e)
+  pub heard-long : places ≡ most_samples → HeardOf (channel_samples s ch) (channel_end s ch) (Ok h.heard)
+  heard-long e = all-heard (ap (decoding s r ch h.decoder.position) e)
 
   -- where more places would not do
-  pub heard_short : places ≤ most_samples → is_short h.reply ≡ false
-      → HeardOf (channel_samples s ch) (channel_end s ch) (record { reply = h.reply; length = h.length; whole = h.whole })
+  pub heard_short : places ≤ most_samples → is_short h.heard.reply ≡ false → HeardOf (channel_samples s ch) (channel_end s ch) (Ok h.heard)
   heard_short l f =
-      all-heard (λ w.
-      decoding-room l s r ch h.decoder.position (λ e. absurd (not_short _ (rw (t.reply w) at f) e)) (λ e. e))
-
-  -- where they would, the system took all
-  pub short_whole : is_short h.reply ≡ true → h.whole ≡ true
-  short_whole f = by_cases h.whole (λ w. w) (λ w. not_both h.reply f (t.given w))
+      all-heard (decoding-room l s r ch h.decoder.position (λ e. absurd (not_short _ (rw t.reply at f) e)) (λ e. e))
 
 -- ---- A slot that does not open
 
 pub none_of : (s : List ℕ) (ch n : ℕ) → opening s ≡ Opened.refused n
-    → HeardOf (channel_samples s ch) (channel_end s ch) (record { reply = DecodeReply.Refused n; length = 0; whole = true })
+    → HeardOf (channel_samples s ch) (channel_end s ch) (Ok (record { reply = DecodeReply.Refused n; length = 0 }))
 unfolding channel_samples channel_end
-none_of s ch n e = rw e (record { most = omega arith; all = λ w. refl; ends = λ w. refl })
+none_of s ch n e = rw e (refl, refl)
 
 -- ---- Room
 

@@ -1,5 +1,5 @@
 -- Hearing a channel (document 02, Card 1): the samples of a slot's channel and how they end, and what is printed of them.
-use Rattle.std.specs.Prelude.{ℕ, ◌-◌, ◌*◌, ◌/◌, ◌≤◌, ◌≡◌, Bool, true, false, List, [], length, drop, eqb, ℤ}
+use Rattle.std.specs.Prelude.{ℕ, ◌-◌, ◌*◌, ◌/◌, ◌≤◌, ◌≡◌, Bool, true, false, List, [], length, drop, eqb, ℤ, Result, Ok, Err}
 use Rattle.layout.specs.Refusals.{block_limit, slot_limit, length_limit}
 use Rattle.reader.specs.OpeningAndReading.{Opened, opening}
 use Rattle.reader.specs.declared.HpsReader.{HpsReader}
@@ -8,6 +8,7 @@ use Rattle.reader_decode.specs.declared.Decoder.{Decoder}
 use Rattle.reader_decode.specs.declared.DecodeReply.{DecodeReply}
 use Rattle.reader_decode.specs.declared.DecodeReply.TheVariants.{Refused, End, Samples}
 use Rattle.decode_print.specs.declared.Heard.{Heard}
+use Rattle.decode_print.specs.declared.NotTaken.{NotTaken}
 use Rattle.decode_print.specs.declared.Hearing.{Hearing}
 
 -- The samples of so many addresses that fill whole frames: 14 of every 16.
@@ -52,11 +53,10 @@ RoomForEach = (s : List ℕ) (r : HpsReader) → opening s ≡ Opened.opened r �
 
 -- ---- What is printed
 
--- No more than the samples were handed to the system; where it took all, those were all, and the reply is how they end.
-pub record HeardOf (samples : List ℤ) (end : DecodeReply) (h : Heard) : Type 0 where
-  pub most : h.length ≤ length samples
-  pub all : h.whole ≡ true → h.length ≡ length samples
-  pub ends : h.whole ≡ true → h.reply ≡ end
+-- Where the system took all, those were all samples, and the reply is how they end; else no more than these were handed to it.
+abbrev pub HeardOf : (samples : List ℤ) (end : DecodeReply) → Result Heard NotTaken → Type 0
+HeardOf xs end (Ok h) = (h.length ≡ length xs) × (h.reply ≡ end)
+HeardOf xs end (Err e) = e.length ≤ length xs
 
 -- On the way: so many samples of the channel stand before this decoder, and what comes from it on are the others and how they end.
 pub record Before (s : List ℕ) (r : HpsReader) (channel : ℕ) (d : Decoder) (count : ℕ) : Type 0 where
@@ -77,10 +77,13 @@ is_short (Refused n) = eqb n 14
 is_short End = false
 is_short (Samples n) = false
 
--- Printed up to a call that gave no samples, with so many places lent; or up to samples that the system did not take.
-pub record HeardTo (s : List ℕ) (r : HpsReader) (channel places : ℕ) (h : Hearing) : Type 0 where
-  pub most : h.length ≤ length (channel_samples s channel)
-  pub before : h.whole ≡ true → Before s r channel h.decoder h.length
-  pub reply : h.whole ≡ true → h.reply ≡ reply_of (decoding s r channel h.decoder.position places)
-  pub quiet : h.whole ≡ true → is_samples h.reply ≡ false
-  pub given : h.whole ≡ false → is_samples h.reply ≡ true
+-- Printed up to a call that gave no samples, with so many places lent.
+pub record HeardHere (s : List ℕ) (r : HpsReader) (channel places : ℕ) (h : Hearing) : Type 0 where
+  pub before : Before s r channel h.decoder h.heard.length
+  pub reply : h.heard.reply ≡ reply_of (decoding s r channel h.decoder.position places)
+  pub quiet : is_samples h.heard.reply ≡ false
+
+-- The same, or up to samples that the system did not take.
+abbrev pub HeardTo : List ℕ → HpsReader → (channel places : ℕ) → Result Hearing NotTaken → Type 0
+HeardTo s r ch places (Ok h) = HeardHere s r ch places h
+HeardTo s r ch places (Err e) = e.length ≤ length (channel_samples s ch)

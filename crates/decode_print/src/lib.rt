@@ -1,7 +1,8 @@
 // A channel decoded and printed, block after block: 16 bits little-endian.
 #![tactic(auto)]
 
-ghost use Rattle.std.specs.Prelude.{◌≡◌, ◌≤◌, length, take, drop};
+ghost use Rattle.std.specs.Prelude.{◌≡◌, ◌≤◌, ◌+◌, ◌*◌, length, take, drop, MatchResult};
+ghost use Rattle.layout.specs.Refusals.{block_limit};
 ghost use Rattle.pcm_bytes.specs.Pcm.{pcm_bytes};
 ghost use Rattle.reader.specs.OpeningAndReading.{Readable};
 ghost use Rattle.decode_print.specs.Hearing.{most_samples, pushed_samples, channel_samples, channel_end, RoomForEach, HeardOf, Before, HeardTo, is_short};
@@ -15,53 +16,56 @@ use reader_decode::{DecodeReply, Decoder, decode, new_decoder};
 use reader_open::open;
 use std::io::Write;
 
-// How many samples of a channel were handed to the system, whether it took them all, and the reply that ended them.
+// How many samples a channel has, all of them handed to the system, and the reply that ended them.
 #[derive(Clone, Copy)]
 pub struct Heard {
     pub reply: DecodeReply,
     pub length: usize,
-    pub whole: bool,
 }
 
-// The same on the way, with the decoder after them.
+// The system did not take all; how many were handed to it before.
+#[derive(Clone, Copy, Debug, PartialEq, Eq)]
+pub struct NotTaken {
+    pub length: usize,
+}
+
+// Samples heard, and the decoder after them.
 #[derive(Clone, Copy)]
 struct Hearing {
-    reply: DecodeReply,
+    heard: Heard,
     decoder: Decoder,
-    length: usize,
-    whole: bool,
 }
 
-// What is handed to the system are the bytes of n samples from `at` on: samples and place are there for the premise alone. How many it took: all or none.
-fn write_pcm<W: Write>(to: &mut W, samples: &[i16], at: usize, n: usize, bytes: &[u8]) -> usize
+// What is handed to the system are the bytes of n samples from `at` on: samples and place are there for the premise alone. Whether it took them.
+fn write_pcm<W: Write>(to: &mut W, samples: &[i16], at: usize, n: usize, bytes: &[u8]) -> bool
     requires { bytes.now ≡ pcm_bytes (take n (drop at samples.now)) }
-    ensures { result ≤ n }
 {
-    if write_all(to, bytes) { n } else { 0 }
+    write_all(to, bytes)
 }
 
-// Samples of a channel, from one of them on; how many the system took.
+// Samples of a channel, from one of them on; how many.
 fn print_samples<W: Write>(
     to: &mut W,
     s: &[u8],
     channel: usize,
     from: usize,
     samples: &[i16],
-) -> usize
-    requires { samples.now ≡ take (length samples.now) (drop from (channel_samples s.now channel)) }
-    ensures { result ≤ length samples.now }
+) -> Result<usize, NotTaken>
+    requires those { samples.now ≡ take (length samples.now) (drop from (channel_samples s.now channel)) }
+    requires fits { from + length samples.now ≤ block_limit * most_samples }
+    ensures { MatchResult result (λ n. n ≡ length samples.now) (λ e. e.length ≤ from + length samples.now) }
 {
     let mut out = large_buffer();
     let mut at: usize = 0;
+    // The place goes on by what was put, and the premise of the write speaks of it: a `for` over chunks would be no plainer.
     while at < samples.len() {
         let n = put_pcm(&samples[at..], &mut out);
-        let taken = write_pcm(to, samples, at, n, &out[..2 * n]);
-        if taken == 0 {
-            return at;
+        if !write_pcm(to, samples, at, n, &out[..2 * n]) {
+            return Err(NotTaken { length: from + at });
         }
-        at += taken;
+        at += n;
     }
-    at
+    Ok(at)
 }
 
 // The blocks from a decoder on, up to a call that gives no samples.
@@ -73,7 +77,7 @@ fn print_blocks<W: Write>(
     first: Decoder,
     from: usize,
     samples: &mut [i16],
-) -> Hearing
+) -> Result<Hearing, NotTaken>
     requires { Readable r × (Before s.now r channel first from × (length samples.old ≤ most_samples)) }
     ensures { HeardTo s.now r channel (length samples.old) result }
 {
@@ -83,47 +87,19 @@ fn print_blocks<W: Write>(
         let call = decode(s, r, channel, decoder, samples);
         let reply = call.reply;
         let DecodeReply::Samples(n) = reply else {
-            return Hearing {
-                reply,
-                decoder,
-                length,
-                whole: true,
-            };
+            let heard = Heard { reply, length };
+            return Ok(Hearing { heard, decoder });
         };
-        let next = call.decoder;
-        let taken = print_samples(to, s, channel, length, &samples[..n]);
+        let taken = print_samples(to, s, channel, length, &samples[..n])?;
         length += taken;
-        if taken < n {
-            return Hearing {
-                reply,
-                decoder,
-                length,
-                whole: false,
-            };
-        }
-        decoder = next;
+        decoder = call.decoder;
     }
 }
 
 fn is_short(reply: DecodeReply) -> bool
     ensures { result ≡ is_short reply }
 {
-    match reply {
-        DecodeReply::Refused(n) => n == 14,
-        DecodeReply::End => false,
-        DecodeReply::Samples(_) => false,
-    }
-}
-
-fn ended(h: Hearing) -> Heard
-    ensures { result ≡ record { reply = h.reply; length = h.length; whole = h.whole } }
-{
-    let reply = h.reply;
-    Heard {
-        reply,
-        length: h.length,
-        whole: h.whole,
-    }
+    matches!(reply, DecodeReply::Refused(14))
 }
 
 // Room for the samples of a block that was pushed.
@@ -148,13 +124,13 @@ fn print_long<W: Write>(
     channel: usize,
     first: Decoder,
     from: usize,
-) -> Heard
+) -> Result<Heard, NotTaken>
     requires { Readable r × Before s.now r channel first from }
     ensures { HeardOf (channel_samples s.now channel) (channel_end s.now channel) result }
 {
     let mut samples = long_room();
-    let h = print_blocks(to, s, r, channel, first, from, &mut samples);
-    ended(h)
+    let h = print_blocks(to, s, r, channel, first, from, &mut samples)?;
+    Ok(h.heard)
 }
 
 // In the room for a block that was pushed; from a longer block on, in that for the longest. It calls itself for these, so that only they take the stack of the
@@ -167,7 +143,7 @@ fn print_rest<W: Write>(
     first: Decoder,
     from: usize,
     long: bool,
-) -> Heard
+) -> Result<Heard, NotTaken>
     requires { Readable r × Before s.now r channel first from }
     ensures { HeardOf (channel_samples s.now channel) (channel_end s.now channel) result }
 {
@@ -175,17 +151,16 @@ fn print_rest<W: Write>(
         return print_long(to, s, r, channel, first, from);
     }
     let mut samples = pushed_room();
-    let h = print_blocks(to, s, r, channel, first, from, &mut samples);
-    let reply = h.reply;
-    if is_short(reply) {
-        let decoder = h.decoder;
-        return print_rest(to, s, r, channel, decoder, h.length, true);
+    let h = print_blocks(to, s, r, channel, first, from, &mut samples)?;
+    let heard = h.heard;
+    if is_short(heard.reply) {
+        return print_rest(to, s, r, channel, h.decoder, heard.length, true);
     }
-    ended(h)
+    Ok(heard)
 }
 
 // Prints a channel's samples, up to those of which the system does not take all.
-pub fn print_channel<W: Write>(to: &mut W, s: &[u8], channel: usize) -> Heard
+pub fn print_channel<W: Write>(to: &mut W, s: &[u8], channel: usize) -> Result<Heard, NotTaken>
     ensures { HeardOf (channel_samples s.now channel) (channel_end s.now channel) result }
 {
     let opened = open(s);
@@ -194,11 +169,7 @@ pub fn print_channel<W: Write>(to: &mut W, s: &[u8], channel: usize) -> Heard
     match answer {
         OpenReply::Refused(n) => {
             let reply = DecodeReply::Refused(n);
-            Heard {
-                reply,
-                length: 0,
-                whole: true,
-            }
+            Ok(Heard { reply, length: 0 })
         }
         OpenReply::Opened => {
             let first = new_decoder();

@@ -1,22 +1,20 @@
 -- A faded sample, samples faded one after the other, and the call.
-use Prim.Native.Nat.{ℕ, zero, suc, ◌+◌, ◌*◌, ◌≤◌, ◌<◌}
-use mathlib.Core.Path.{◌≡◌, refl, sym, ap, ◌∙◌}
-use mathlib.Core.List.{List, [], ◌∷◌, ◌++◌, append_assoc, append-nil}
+use Prim.Native.Nat.{ℕ, zero, suc, ◌*◌, ◌≤◌, ◌<◌}
+use mathlib.Core.Path.{◌≡◌, refl, ap}
+use mathlib.Core.List.{List, [], ◌∷◌, ◌++◌}
 use native.Mathlib.Nat.{mul-zero}
 use native.Mathlib.Omega.{arith}
-use native.Mathlib.Numerals.{add-one}
-use lib.ListN.{length, get_or, take, drop, set, length-set, length-map, drop_of_length-le}
-use lib.Seq.{take-suc-set, drop-set-lt, drop-cons, take_all}
+use lib.ListN.{length, length-map}
 use lib.Dec.{ltb}
 use lib.IntN.{ℤ, pos, negsuc, neg_ℤ, ◌*ℤ◌}
 use mir.Syntax.{w16, w32}
 use mir.Val.{SFits}
 use borrow.Author.Tests.{lt-ltb, le-ltb, ltb-true, ltb-false}
+use Rattle.layout.specs.Records.{Read}
 use Rattle.layout.proofs.Cases.{by_cases}
 use Rattle.whole_numbers.specs.Whole.{floor_div}
 use Rattle.whole_numbers.proofs.WholeLaws.{abs_product, abs16, fits_in, mul_bound}
 use Rattle.fader.specs.Fader.{FadeAnswer, level_limit, curve_entry, faded, faded_by, fading, fade_reply}
-use Rattle.fader.specs.declared.FadeReply.{FadeReply}
 use Rattle.fader.specs.FaderLaws.{FadedFrom}
 
 -- ---- One sample
@@ -56,39 +54,6 @@ unfolding faded floor_div
 lowest (pos a) = ap pos (omega arith)
 lowest (negsuc a) = rw (mul-zero (suc a))
 
--- ---- Samples one after the other
-
--- i of the samples are faded: with the others faded too they come to all
-pub record Fading (e : ℕ) (before samples : List ℤ) (i : ℕ) : Type 0 where
-  pub whole : take i samples ++ faded_by e (drop i samples) ≡ faded_by e before
-  pub size : length samples ≡ length before
-  pub place : i ≤ length samples
-
-pub fading-none : (e : ℕ) (samples : List ℤ) → Fading e samples samples 0
-fading-none e samples = record { whole = refl; size = refl; place = omega arith }
-
-one_more : (e : ℕ) (samples : List ℤ) (i : ℕ) → i < length samples
-    → faded_by e (drop i samples) ≡ faded (get_or samples i (pos 0)) e ∷ faded_by e (drop (suc i) samples)
-unfolding faded_by
-one_more e samples i h = rw (drop-cons samples i (pos 0) h)
-
-pub fading-more : {e : ℕ} {before samples : List ℤ} {i : ℕ} → Fading e before samples i → i < length samples
-    → {y : ℤ} → y ≡ faded (get_or samples i (pos 0)) e → Fading e before (set samples i y) (i + 1)
-fading-more {e} {before} {samples} {i} d h {y} q =
-    let g : drop (suc i) (set samples i y) ≡ drop (suc i) samples = drop-set-lt (suc i) samples i y (omega arith) in
-    record {
-      whole =
-          rw (add-one i, take-suc-set samples i y h, g, append_assoc, q)
-          (ap (λ (l : List ℤ). take i samples ++ l) (sym (one_more e samples i h)) ∙ d.whole);
-      size = length-set samples i y ∙ d.size;
-      place = rw (length-set samples i y) (omega arith);
-    }
-
-pub fading-all : {e : ℕ} {before samples : List ℤ} {i : ℕ} → Fading e before samples i → length samples ≤ i → samples ≡ faded_by e before
-unfolding faded_by
-fading-all {e} {before} {samples} {i} d h =
-    sym (append-nil samples) ∙ (rw (take_all i samples h, drop_of_length-le samples h) at d.whole)
-
 -- ---- The call
 
 pub faded-length : (e : ℕ) (samples : List ℤ) → length (faded_by e samples) ≡ length samples
@@ -115,21 +80,15 @@ same_reply level xs ys =
     (λ t. let h = ltb-true level_limit level t in rw (too_high level xs h, too_high level ys h))
     (λ t. let h = ltb-false level_limit level t in rw (within level xs h, within level ys h))
 
-is_refused : FadeReply → ℕ
-is_refused (FadeReply.Refused n) = 1
-is_refused FadeReply.Faded = 0
-
 -- and tells it
-pub reply_high : (level : ℕ) (xs : List ℤ) {n : ℕ} → fade_reply (fading level xs) ≡ FadeReply.Refused n → level_limit < level
-unfolding is_refused
+pub reply_high : (level : ℕ) (xs : List ℤ) {n : ℕ} → fade_reply (fading level xs) ≡ Read.refused n → level_limit < level
 reply_high level xs e =
     by_cases (ltb level_limit level)
     (λ t. ltb-true level_limit level t)
-    (λ t. absurd (omega (arith, ap is_refused (rw (within level xs (ltb-false level_limit level t)) at e))))
+    (λ t. let z = rw (within level xs (ltb-false level_limit level t)) at e in cc)
 
-pub reply_low : (level : ℕ) (xs : List ℤ) → fade_reply (fading level xs) ≡ FadeReply.Faded → level ≤ level_limit
-unfolding is_refused
+pub reply_low : (level : ℕ) (xs : List ℤ) → fade_reply (fading level xs) ≡ Read.value tt → level ≤ level_limit
 reply_low level xs e =
     by_cases (ltb level_limit level)
-    (λ t. absurd (omega (arith, ap is_refused (rw (too_high level xs (ltb-true level_limit level t)) at e))))
+    (λ t. let z = rw (too_high level xs (ltb-true level_limit level t)) at e in cc)
     (λ t. ltb-false level_limit level t)

@@ -1,8 +1,8 @@
 -- Walk-in fader (document 02, Card 3): the curve, a faded sample, the fading call.
 use Rattle.std.specs.Prelude.{ℕ, ◌*◌, ◌/◌, List, map, ltb, ℤ, pos, ◌*ℤ◌}
 use Rattle.layout.specs.Choice.{pick}
+use Rattle.layout.specs.Records.{Read}
 use Rattle.whole_numbers.specs.Whole.{floor_div}
-use Rattle.fader.specs.declared.FadeReply.{FadeReply}
 
 -- "levels 0 to 1,023"
 abbrev pub level_limit : ℕ
@@ -31,9 +31,10 @@ fading level xs = pick (ltb level_limit level) (FadeAnswer.refused 31) (FadeAnsw
 
 -- ---- What the call returns
 
-abbrev pub fade_reply : FadeAnswer → FadeReply
-fade_reply (FadeAnswer.refused n) = FadeReply.Refused n
-fade_reply (FadeAnswer.gave xs) = FadeReply.Faded
+-- The number, or that the samples are faded.
+abbrev pub fade_reply : FadeAnswer → Read (Unit {0})
+fade_reply (FadeAnswer.refused n) = Read.refused n
+fade_reply (FadeAnswer.gave xs) = Read.value tt
 
 -- "before touching any sample": refused, the lent samples stay; else they are faded in place
 abbrev pub samples_after : (lent : List ℤ) → FadeAnswer → List ℤ

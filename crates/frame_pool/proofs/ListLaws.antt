@@ -1,45 +1,39 @@
 -- The statements on lists: an invariant of the numbers, and for the two lists a count that goes by the decoder's own calls alone.
-use Prim.Native.Nat.{ℕ, zero, suc, ◌+◌, ◌-◌, ◌≤◌, ◌<◌}
+use Prim.Native.Nat.{ℕ, ◌+◌, ◌-◌, ◌≤◌, ◌<◌}
 use mathlib.Core.Path.{◌≡◌, refl, sym, ap, ◌∙◌}
 use mathlib.Core.Bool.{true, false}
 use mathlib.Core.List.{List, [], ◌∷◌}
 use native.Mathlib.Omega.{arith}
 use lib.ListN.{length, get_or}
-use lib.Dec.{eqb, ltb}
-use borrow.Author.Tests.{eqb-true, eq-eqb, ne_eqb, lt-ltb, le-ltb, ltb-true, ltb-false}
+use lib.Dec.{ltb}
+use borrow.Author.Tests.{lt-ltb, le-ltb, ltb-true, ltb-false}
+use Rattle.std.specs.Prelude.{Some, None}
 use Rattle.layout.specs.Choice.{pick}
 use Rattle.layout.specs.Lists.{All}
 use Rattle.layout.proofs.Cases.{by_cases, apart}
-use Rattle.layout.proofs.ListLaws.{all_head, all_tail, zeros_at}
-use Rattle.frame_pool.specs.FramePool.{frame_count, count_marked, highest_free, has_mark, mark_of, other_decoder, free_frames, held_by, lacks}
+use Rattle.layout.proofs.ListLaws.{all_head, all_tail}
+use Rattle.frame_pool.specs.FramePool.{frame_count, count_marked, highest_free, has_mark, Mark, same_mark, other_decoder, free_frames, held_by, lacks, TakeReply, GiveReply}
 use Rattle.frame_pool.specs.FramePool.{is_free, is_held_by, serves, new_pool, take_of, give_of}
 use Rattle.frame_pool.specs.HighestFree.{HighestFree}
 use Rattle.frame_pool.specs.FrameLists.{PoolCall, after_pool_call, pool_after, OneOfThree, OwnCall, own_calls, TakeAnswer, without_frame, take_answers}
 use Rattle.frame_pool.specs.FrameLists.{give_replies, pools_along, SixteenFrames, AlwaysServed, AtMostTen, ServedAlike}
 use Rattle.frame_pool.specs.declared.DecoderId.{DecoderId}
 use Rattle.frame_pool.specs.declared.Pool.{Pool}
-use Rattle.frame_pool.specs.declared.TakeReply.{TakeReply}
-use Rattle.frame_pool.specs.declared.GiveReply.{GiveReply}
-use Rattle.frame_pool.proofs.PoolLaws.{highest-below, mark_inside, mark_outside, take_served, take_refused, give_refused, give_accepted}
+use Rattle.frame_pool.proofs.PoolLaws.{highest-below, mark_inside, mark_outside, take_served, take_refused, give_refused, give_accepted, same_mark-true, eq-same_mark, ne-same_mark}
 use Rattle.frame_pool.proofs.SharePremises.{Given, Few}
-use Rattle.frame_pool.proofs.MoveLaws.{Marks, Took, took, gave, marked-long, marked_marks, highest_free_lem, highest_top}
+use Rattle.frame_pool.proofs.MoveLaws.{Took, took, gave, marked-long, highest_free_lem, highest_top}
 
 -- ---- A call's ways
 
--- the frames of a list of marks
-pub record Whole (p : Pool) : Type 0 where
-  pub long : length p.marks ≡ frame_count
-  pub marks : Marks p.marks
+-- a pool with its sixteen frames
+abbrev pub Whole : Pool → Type 0
+Whole p = length p.marks ≡ frame_count
 
 -- what a take comes to
 data Takes (p : Pool) (d e : DecoderId) : Type 0 where
   serving : lacks e p < free_frames p → without_frame (take_of p d).reply ≡ TakeAnswer.served → Whole (take_of p d).pool → Took p (take_of p d).pool d e
       → Takes p d e
   refusing : free_frames p ≤ lacks e p → without_frame (take_of p d).reply ≡ TakeAnswer.refused 32 → (take_of p d).pool ≡ p → Takes p d e
-
-mark_small : (d : DecoderId) → mark_of d ≤ 2
-mark_small DecoderId.A = omega arith
-mark_small DecoderId.B = omega arith
 
 takes_of : (p : Pool) (d : DecoderId) → Whole p → Takes p d (other_decoder d)
 takes_of p d w =
@@ -51,8 +45,8 @@ takes_of p d w =
     let f = highest_free frame_count l in
     let k = highest-below frame_count l (omega arith) in
     serving h (ap (λ r. without_frame r.reply) e)
-    (rw e (record { long = marked-long p f k w.long (mark_of d); marks = marked_marks p f k w.long (mark_of d) (mark_small d) w.marks }))
-    (rw e (took p f k w.long d (highest_free_lem frame_count l (omega arith)))))
+    (rw e (marked-long p f k w (Some d)))
+    (rw e (took p f k w d (highest_free_lem frame_count l (omega arith)))))
     (λ t.
     let e = take_refused p d t in
     refusing (ltb-false (lacks (other_decoder d) p) (free_frames p) t) (ap (λ r. without_frame r.reply) e) (ap (λ r. r.pool) e))
@@ -63,7 +57,7 @@ data Gives (p : Pool) (d e : DecoderId) (f : ℕ) : Type 0 where
   holding : (give_of p d f).reply ≡ GiveReply.Refused 33 → (give_of p d f).pool ≡ p → Gives p d e f
 
 held-inside : (p : Pool) (d : DecoderId) (f : ℕ) → is_held_by d p f ≡ true → f < frame_count
-held-inside p d f t = by_cases (ltb f frame_count) (λ s. ltb-true f frame_count s) (λ s. apart (sym t ∙ mark_outside p.marks (mark_of d) f (ltb-false f frame_count s)))
+held-inside p d f t = by_cases (ltb f frame_count) (λ s. ltb-true f frame_count s) (λ s. apart (sym t ∙ mark_outside p.marks (Some d) f (ltb-false f frame_count s)))
 
 gives_of : (p : Pool) (d : DecoderId) (f : ℕ) → Whole p → Gives p d (other_decoder d) f
 gives_of p d f w =
@@ -71,8 +65,8 @@ gives_of p d f w =
     (λ t.
     let h = held-inside p d f t in
     let e = give_accepted p d f t in
-    giving (rw e (record { long = marked-long p f h w.long 0; marks = marked_marks p f h w.long 0 (omega arith) w.marks }))
-    (rw e (gave p f h w.long d (eqb-true (get_or p.marks f 0) (mark_of d) (sym (mark_inside p.marks (mark_of d) f h) ∙ t)))))
+    giving (rw e (marked-long p f h w None))
+    (rw e (gave p f h w d (same_mark-true (get_or p.marks f None) (Some d) (sym (mark_inside p.marks (Some d) f h) ∙ t)))))
     (λ t.
     let e = give_refused p d f t in
     holding (ap (λ r. r.reply) e) (ap (λ r. r.pool) e))
@@ -107,7 +101,7 @@ call_counted p (PoolCall.gives d f) g = give_counted p d f g (gives_of p d f g.w
 
 new_counted : Counted new_pool
 unfolding count_marked
-new_counted = record { whole = record { long = refl; marks = λ i. omega (arith, zeros_at frame_count i) }; sum = refl; room = omega arith }
+new_counted = record { whole = refl; sum = refl; room = omega arith }
 
 list_counted : (p : Pool) (cs : List PoolCall) → Counted p → Counted (pool_after p cs)
 unfolding pool_after
@@ -128,18 +122,19 @@ room_of p DecoderId.B g = omega arith
 
 -- ---- Sixteen, always served, at most ten, the highest
 
-one_of_three : (x : ℕ) → x ≤ 2 → OneOfThree (eqb x 0) (eqb x 1) (eqb x 2)
-one_of_three zero h = OneOfThree.first
-one_of_three (suc zero) h = OneOfThree.second
-one_of_three (suc (suc zero)) h = OneOfThree.third
-one_of_three (suc (suc (suc x))) h = absurd (omega arith)
+one_of_three : (m : Mark) → OneOfThree (same_mark m None) (same_mark m (Some DecoderId.A)) (same_mark m (Some DecoderId.B))
+one_of_three None = OneOfThree.first
+one_of_three (Some DecoderId.A) = OneOfThree.second
+one_of_three (Some DecoderId.B) = OneOfThree.third
 
-each_one : (p : Pool) → Whole p → (f : ℕ) → f < frame_count → OneOfThree (is_free p f) (is_held_by DecoderId.A p f) (is_held_by DecoderId.B p f)
-each_one p w f h = let l = p.marks in rw (mark_inside l 0 f h, mark_inside l 1 f h, mark_inside l 2 f h) (one_of_three (get_or l f 0) (w.marks f))
+each_one : (p : Pool) (f : ℕ) → f < frame_count → OneOfThree (is_free p f) (is_held_by DecoderId.A p f) (is_held_by DecoderId.B p f)
+each_one p f h =
+    let l = p.marks in
+    rw (mark_inside l None f h, mark_inside l (Some DecoderId.A) f h, mark_inside l (Some DecoderId.B) f h) (one_of_three (get_or l f None))
 
 pub sixteen : SixteenFrames
 unfolding SixteenFrames
-sixteen cs = let g = counted cs in record { total = g.sum; each = each_one (pool_after new_pool cs) g.whole }
+sixteen cs = let g = counted cs in record { total = g.sum; each = each_one (pool_after new_pool cs) }
 
 pub always : AlwaysServed
 unfolding AlwaysServed
@@ -161,11 +156,11 @@ same_frame f g e = cc
 not_frame : (n f : ℕ) → TakeReply.Refused n ≡ TakeReply.Frame f → ⊥
 not_frame n f e = let z : ◌≡◌ {A = ℕ} 0 1 = cc in omega arith
 
-held-above : (l : List ℕ) (g : ℕ) → highest_free frame_count l < g → has_mark l 0 g ≡ false
+held-above : (l : List Mark) (g : ℕ) → highest_free frame_count l < g → has_mark l None g ≡ false
 held-above l g h =
     by_cases (ltb g frame_count)
-    (λ t. let k = ltb-true g frame_count t in mark_inside l 0 g k ∙ ne_eqb (get_or l g 0) 0 (highest_top frame_count l g h k))
-    (λ t. mark_outside l 0 g (ltb-false g frame_count t))
+    (λ t. let k = ltb-true g frame_count t in mark_inside l None g k ∙ ne-same_mark (get_or l g None) None (highest_top frame_count l g h k))
+    (λ t. mark_outside l None g (ltb-false g frame_count t))
 
 pub highest : HighestFree
 unfolding HighestFree
@@ -176,7 +171,7 @@ highest p d f e =
     let l = p.marks in
     let b = highest-below frame_count l (omega arith) in
     let k = same_frame (highest_free frame_count l) f (sym (ap (λ r. r.reply) (take_served p d t)) ∙ e) in
-    rw (← k) (mark_inside l 0 (highest_free frame_count l) b ∙ eq-eqb (get_or l (highest_free frame_count l) 0) 0 (highest_free_lem frame_count l (omega arith)), λ g m. held-above l g (omega arith)))
+    rw (← k) (mark_inside l None (highest_free frame_count l) b ∙ eq-same_mark (get_or l (highest_free frame_count l) None) None (highest_free_lem frame_count l (omega arith)), λ g m. held-above l g (omega arith)))
     (λ t. absurd (not_frame 32 f (sym (ap (λ r. r.reply) (take_refused p d t)) ∙ e)))
 
 -- ---- Two lists

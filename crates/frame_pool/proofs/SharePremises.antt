@@ -1,10 +1,9 @@
 -- The two premises of decoders that keep to their share, of one reply and of one pool.
 use Prim.Native.Nat.{◌≤◌}
 use mathlib.Core.Path.{◌≡◌}
-use Rattle.frame_pool.specs.FramePool.{share, other_decoder, held_by}
+use Rattle.frame_pool.specs.FramePool.{share, other_decoder, held_by, GiveReply}
 use Rattle.frame_pool.specs.declared.DecoderId.{DecoderId}
 use Rattle.frame_pool.specs.declared.Pool.{Pool}
-use Rattle.frame_pool.specs.declared.GiveReply.{GiveReply}
 
 abbrev pub Given : GiveReply → Type 0
 Given r = r ≡ GiveReply.Given

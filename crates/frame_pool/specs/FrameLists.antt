@@ -2,11 +2,9 @@
 use Rattle.std.specs.Prelude.{ℕ, ◌+◌, ◌<◌, ◌≤◌, ◌≡◌, Bool, true, false, List, [], ◌∷◌, ◌++◌, replicate}
 use Rattle.layout.specs.Choice.{pick}
 use Rattle.layout.specs.Lists.{All}
-use Rattle.frame_pool.specs.FramePool.{frame_count, share, other_decoder, free_frames, held_by, is_free, is_held_by, new_pool, take_of, give_of}
+use Rattle.frame_pool.specs.FramePool.{frame_count, share, same_decoder, other_decoder, free_frames, held_by, is_free, is_held_by, new_pool, take_of, give_of, TakeReply, GiveReply}
 use Rattle.frame_pool.specs.declared.DecoderId.{DecoderId}
 use Rattle.frame_pool.specs.declared.Pool.{Pool}
-use Rattle.frame_pool.specs.declared.TakeReply.{TakeReply}
-use Rattle.frame_pool.specs.declared.GiveReply.{GiveReply}
 
 -- ---- "list of takes and gives"
 
@@ -51,12 +49,6 @@ unfoldable pub AtMostTen : Type 0
 AtMostTen = (calls : List PoolCall) (who : DecoderId) → held_by who (pool_after new_pool calls) ≤ 10
 
 -- ---- "two such lists that differ only in the other's calls and in the numbers of the frames"
-
-abbrev pub same_decoder : (d e : DecoderId) → Bool
-same_decoder DecoderId.A DecoderId.A = true
-same_decoder DecoderId.A DecoderId.B = false
-same_decoder DecoderId.B DecoderId.A = false
-same_decoder DecoderId.B DecoderId.B = true
 
 -- A decoder's call without the frame's number.
 pub data OwnCall : Type 0 where

@@ -1,9 +1,8 @@
 -- "It gets the highest-numbered free frame." (document 02, Card 4), said without looking for it.
 use Rattle.std.specs.Prelude.{ℕ, ◌<◌, ◌≡◌, true, false}
-use Rattle.frame_pool.specs.FramePool.{is_free, take_of}
+use Rattle.frame_pool.specs.FramePool.{is_free, take_of, TakeReply}
 use Rattle.frame_pool.specs.declared.DecoderId.{DecoderId}
 use Rattle.frame_pool.specs.declared.Pool.{Pool}
-use Rattle.frame_pool.specs.declared.TakeReply.{TakeReply}
 
 -- On every pool: the frame of a take that is served was free, and none with a higher number was.
 unfoldable pub HighestFree : Type 0

@@ -2,11 +2,12 @@
 #![tactic(auto)]
 
 ghost use Rattle.std.specs.Prelude.{◌≡◌, ◌-◌, ltb};
-ghost use Rattle.frame_pool.specs.FramePool.{share, other_decoder, new_pool, take_of, give_of};
+ghost use Rattle.frame_pool.specs.FramePool.{share, other_decoder, new_pool, take_of, take_says, give_of, give_says};
 ghost use Rattle.frame_pool.specs.HighestFree.{HighestFree};
 ghost use Rattle.frame_pool.specs.FrameLists.{SixteenFrames, AlwaysServed, AtMostTen, ServedAlike, PremisesNeeded};
 
-use crate::marks::{count, highest_free, holds, mark_of};
+use crate::marks::{count, highest_free, holds};
+use layout::refusal::Refusal;
 
 mod marks; // marks.rt: the frames' marks, counted and looked for
 
@@ -15,50 +16,37 @@ pub const FRAMES: usize = 16;
 // How many frames each decoder can count on.
 const SHARE: usize = 6;
 
-#[derive(Clone, Copy)]
+#[derive(Clone, Copy, Debug, PartialEq, Eq)]
 pub enum DecoderId {
     A,
     B,
 }
 
-// A mark for each frame: who holds it, or that it is free. A pool comes from new_pool, take and give alone.
+impl DecoderId {
+    fn other(self) -> DecoderId
+        ensures { result ≡ other_decoder self }
+    {
+        match self {
+            DecoderId::A => DecoderId::B,
+            DecoderId::B => DecoderId::A,
+        }
+    }
+}
+
+// Who holds a frame; of a free one nobody.
+type Mark = Option<DecoderId>;
+
+// A mark for each frame. A pool comes from new_pool, take and give alone.
 #[derive(Clone, Copy)]
 pub struct Pool {
-    marks: [u8; FRAMES],
+    marks: [Mark; FRAMES],
 }
 
-// The number of the frame, or of the refusal.
+// A reply, and the pool after it.
 #[derive(Clone, Copy)]
-pub enum TakeReply {
-    Frame(usize),
-    Refused(u32),
-}
-
-#[derive(Clone, Copy)]
-pub enum GiveReply {
-    Given,
-    Refused(u32),
-}
-
-#[derive(Clone, Copy)]
-pub struct TakeCall {
-    pub reply: TakeReply,
+pub struct Call<T> {
+    pub reply: Result<T, Refusal>,
     pub pool: Pool,
-}
-
-#[derive(Clone, Copy)]
-pub struct GiveCall {
-    pub reply: GiveReply,
-    pub pool: Pool,
-}
-
-fn other(who: DecoderId) -> DecoderId
-    ensures { result ≡ other_decoder who }
-{
-    match who {
-        DecoderId::A => DecoderId::B,
-        DecoderId::B => DecoderId::A,
-    }
 }
 
 // What a decoder that holds so many still lacks to its share: nothing where it holds more.
@@ -80,45 +68,45 @@ pub fn new_pool() -> Pool
     ensures { result ≡ new_pool }
 {
     Pool {
-        marks: [marks::FREE; FRAMES],
+        marks: [None; FRAMES],
     }
 }
 
-// The highest-numbered free frame for a decoder; refused with 32, the pool is left.
-pub fn take(pool: Pool, who: DecoderId) -> TakeCall
-    ensures { result ≡ take_of pool who }
+// The highest-numbered free frame for a decoder; refused, the pool is left.
+pub fn take(pool: Pool, who: DecoderId) -> Call<usize>
+    ensures { take_says result ≡ take_of pool who }
 {
     let mut marks = pool.marks;
-    let free = count(&marks, marks::FREE);
-    let held = count(&marks, mark_of(other(who)));
+    let free = count(&marks, None);
+    let held = count(&marks, Some(who.other()));
     if !outnumber(free, held) {
-        return TakeCall {
-            reply: TakeReply::Refused(32),
+        return Call {
+            reply: Err(Refusal::NotServed),
             pool,
         };
     }
     let frame = highest_free(&marks);
-    marks[frame] = mark_of(who);
-    TakeCall {
-        reply: TakeReply::Frame(frame),
+    marks[frame] = Some(who);
+    Call {
+        reply: Ok(frame),
         pool: Pool { marks },
     }
 }
 
-// A frame given back by the decoder that holds it; refused with 33, the pool is left.
-pub fn give(pool: Pool, who: DecoderId, frame: usize) -> GiveCall
-    ensures { result ≡ give_of pool who frame }
+// A frame given back by the decoder that holds it; refused, the pool is left.
+pub fn give(pool: Pool, who: DecoderId, frame: usize) -> Call<()>
+    ensures { give_says result ≡ give_of pool who frame }
 {
     let mut marks = pool.marks;
-    if !holds(&marks, mark_of(who), frame) {
-        return GiveCall {
-            reply: GiveReply::Refused(33),
+    if !holds(&marks, Some(who), frame) {
+        return Call {
+            reply: Err(Refusal::NotHeld),
             pool,
         };
     }
-    marks[frame] = marks::FREE;
-    GiveCall {
-        reply: GiveReply::Given,
+    marks[frame] = None;
+    Call {
+        reply: Ok(()),
         pool: Pool { marks },
     }
 }

@@ -1,5 +1,5 @@
 // Arguments, files by name, what went wrong.
-ghost use Rattle.std.specs.Prelude.{◌≤◌};
+ghost use Rattle.std.specs.Prelude.{◌≤◌, IfSome};
 ghost use Rattle.std.specs.Counts.{IsPrefixLen};
 ghost use Rattle.host_io.specs.Partly.{CountedTo, Grows, RefusesOther};
 
@@ -16,22 +16,25 @@ pub fn arg_count<E: Env>(rt: &E, most: usize) -> usize
 {
     let mut room = [0u8; 1];
     for i in 0..most {
-        match rt.arg(i, &mut room) {
-            Err(FillError::NotPresent) => return i,
-            _ => {}
+        if let Err(FillError::NotPresent) = rt.arg(i, &mut room) {
+            return i;
         }
     }
     most
 }
 
-// Puts argument i at the start of the buffer and returns its length, or 0 where it is missing or longer than the buffer.
+// Puts argument i at the start of the buffer and returns its length, or nothing where it is missing or longer than the buffer.
+pub fn argument<E: Env>(rt: &E, i: usize, buf: &mut [u8]) -> Option<usize>
+    ensures { IfSome result (λ n. IsPrefixLen n buf.new) }
+{
+    rt.arg(i, buf).ok()
+}
+
+// The same, with 0 for nothing.
 pub fn arg<E: Env>(rt: &E, i: usize, buf: &mut [u8]) -> usize
     ensures { IsPrefixLen result buf.new }
 {
-    match rt.arg(i, buf) {
-        Ok(n) => n,
-        Err(_) => 0,
-    }
+    argument(rt, i, buf).unwrap_or(0)
 }
 
 // The file of this name, opened for reading.
@@ -47,18 +50,16 @@ pub fn open_read<R: Files>(files: &R, path: &[u8]) -> io::Result<R::File>
 // The longest text of an error.
 const TEXT: usize = 256;
 
+// What comes before an error's number.
+const NUMBER: &[u8] = b" (os error ";
+
 // How many bytes of an error's text come before its number, which stands behind it in brackets.
 fn plain_length(text: &[u8]) -> usize
     ensures { IsPrefixLen result text.now }
 {
-    let mut i = 0;
-    while i < text.len() {
-        if text[i..].starts_with(b" (os error ") {
-            return i;
-        }
-        i += 1;
-    }
-    text.len()
+    text.windows(NUMBER.len())
+        .position(|part| part == NUMBER)
+        .unwrap_or(text.len())
 }
 
 // Writes a line: what failed, as the caller names it, a colon and the error's text.

@@ -4,7 +4,7 @@
 pub mod host; // host.rt: arguments, files by name, what went wrong
 pub mod remembering; // remembering.rt: a writer that remembers why a write failed
 
-ghost use Rattle.std.specs.Prelude.{◌≡◌, true, ℕ, ◌≤◌, length, take};
+ghost use Rattle.std.specs.Prelude.{◌≡◌, true, ℕ, ◌≤◌, length, replicate, take};
 ghost use Rattle.std.specs.Counts.{IsPrefixLen};
 ghost use Rattle.std.specs.Fmt.{decimal};
 ghost use Rattle.std.specs.Io.KnownBytes.{Appends, Consumes};
@@ -12,18 +12,30 @@ ghost use Rattle.host_io.specs.Partly.{AppendsPart};
 
 use std::io::{Read, Write};
 
-// 4,096 zeros, which hold any path.
-pub fn buffer() -> [u8; 4096]
-    ensures { 4096 ≡ length result }
+// Room for any path.
+pub const PATH: usize = 4096;
+
+// Room for a loop that moves much data.
+pub const LARGE: usize = 65536;
+
+// A buffer of N zeros.
+pub fn zeros<const N: usize>() -> [u8; N]
+    ensures zeros { result ≡ replicate N 0 }
+    ensures long { N ≡ length result }
 {
-    [0; 4096]
+    [0; N]
 }
 
-// 65,536 zeros, for a loop that moves much data.
-pub fn large_buffer() -> [u8; 65536]
+pub fn buffer() -> [u8; PATH]
+    ensures { 4096 ≡ length result }
+{
+    zeros()
+}
+
+pub fn large_buffer() -> [u8; LARGE]
     ensures { 65536 ≡ length result }
 {
-    [0; 65536]
+    zeros()
 }
 
 // Writes all of the bytes and returns true, or stops at the first write that takes nothing or fails and returns false, when some of them may have been
@@ -32,12 +44,11 @@ pub fn write_all<W: Write>(out: &mut W, bytes: &[u8]) -> bool
     ensures all { result ≡ true → Appends (W.contents out.old) (W.contents out.new) bytes.now }
     ensures part { AppendsPart (W.contents out.old) (W.contents out.new) bytes.now }
 {
-    let mut done = 0;
-    while done < bytes.len() {
-        match out.write(&bytes[done..]) {
-            Ok(0) => return false,
-            Ok(n) => done += n,
-            Err(_) => return false,
+    let mut rest = bytes;
+    while !rest.is_empty() {
+        match out.write(rest) {
+            Ok(0) | Err(_) => return false,
+            Ok(n) => rest = &rest[n..],
         }
     }
     true
@@ -48,12 +59,12 @@ pub fn read_full<R: Read>(input: &mut R, buf: &mut [u8]) -> usize
     ensures bound { IsPrefixLen result buf.new }
     ensures bytes { Consumes (R.remaining input.old) (R.remaining input.new) (take result buf.new) }
 {
+    // An index by hand: the count is the answer, and a slice that shrinks would need one beside it.
     let mut done = 0;
     while done < buf.len() {
         match input.read(&mut buf[done..]) {
-            Ok(0) => break,
+            Ok(0) | Err(_) => break,
             Ok(n) => done += n,
-            Err(_) => break,
         }
     }
     done

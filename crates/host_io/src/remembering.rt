@@ -26,10 +26,8 @@ impl<W: Write> Remembering<W> {
     pub fn tell<E: Write>(&self, err: &mut E, what: &[u8])
         ensures { Grows (E.contents err.old) (E.contents err.new) }
     {
-        match self.error {
-            Some(error) => fail(err, what, error),
-            None => fail(err, what, io::Error::from(ErrorKind::WriteZero)),
-        }
+        let error = self.error.unwrap_or(io::Error::from(ErrorKind::WriteZero));
+        fail(err, what, error)
     }
 }
 
@@ -42,13 +40,11 @@ impl<W: Write> Write for Remembering<W> {
         ensures remembered { IfErr result (λ e. self.new.error ≡ Some e) }
         ensures kept { IfOk result (λ _. self.new.error ≡ self.old.error) }
     {
-        match self.inner.write(buf) {
-            Ok(n) => Ok(n),
-            Err(error) => {
-                self.error = Some(error);
-                Err(error)
-            }
+        let result = self.inner.write(buf);
+        if let Err(error) = result {
+            self.error = Some(error);
         }
+        result
     }
 
     fn flush(&mut self) -> io::Result<()> {

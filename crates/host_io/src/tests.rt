@@ -1,9 +1,9 @@
 // Streams that take and give little at a time, and fail in the midst.
 ghost use Rattle.std.specs.Prelude.{◌≤◌};
 
-use crate::host::{arg, arg_count, fail, open_read};
+use crate::host::{arg, arg_count, argument, fail, open_read};
 use crate::remembering::Remembering;
-use crate::{buffer, large_buffer, print_decimal, read_full, write_all};
+use crate::{LARGE, buffer, large_buffer, print_decimal, read_full, write_all, zeros};
 use std::alloc::Global;
 use std::io;
 use std::io::{ErrorKind, Read, Write};
@@ -140,9 +140,13 @@ fn reaches_arguments_and_files(rt: HostRuntime) {
     assert!(rt; arg(&rt, 0, &mut room) > 0);
     assert_eq!(rt; arg(&rt, 0, &mut []), 0);
     assert_eq!(rt; arg(&rt, 1000, &mut room), 0);
+    assert!(rt; argument(&rt, 0, &mut room).is_some());
+    assert_eq!(rt; argument(&rt, 0, &mut []), None);
+    assert_eq!(rt; argument(&rt, 1000, &mut room), None);
     assert!(rt; open_read(&rt, b"no such file").is_err());
     assert!(rt; open_read(&rt, b"\xff").is_err());
     let mut large = large_buffer();
-    let mut zeros = open_read(&rt, b"/dev/zero").expect(&rt, "a file of zeros");
-    assert_eq!(rt; read_full(&mut zeros, &mut large), 65536);
+    let mut file = open_read(&rt, b"/dev/zero").expect(&rt, "a file of zeros");
+    assert_eq!(rt; read_full(&mut file, &mut large), 65536);
+    assert_eq!(rt; large, zeros::<LARGE>());
 }

@@ -1,16 +1,17 @@
 -- Columns put one after the other into a line, and the line put.
-use Prim.Native.Nat.{ℕ, ◌+◌, ◌*◌, ◌<◌, ◌≤◌}
+use Prim.Native.Nat.{ℕ, ◌+◌, ◌<◌, ◌≤◌}
+use Rattle.std.specs.Prelude.{min}
 use mathlib.Core.Path.{◌≡◌, refl, ap, sym, ◌∙◌}
 use mathlib.Core.List.{List, [], ◌∷◌, ◌++◌, append_assoc, append-nil}
 use native.Mathlib.Omega.{arith}
 use native.Mathlib.Numerals.{add-one}
-use lib.ListN.{length, take, drop, get_or, drop_of_length-le}
-use lib.Seq.{drop-cons, take_at}
+use lib.ListN.{length, drop, get_or, drop_of_length-le, length-append}
+use lib.Seq.{drop-cons}
 use lib.Dec.{leb}
 use borrow.Author.Tests.{le-leb, lt-leb, leb-true}
 use Rattle.layout.specs.Puts.{put_at}
 use Rattle.layout.proofs.Cases.{by_cases}
-use Rattle.layout.proofs.PutLaws.{put_then, put_at_in, put_at-length, put_at-none, kept}
+use Rattle.layout.proofs.PutLaws.{Put, put_then, kept}
 use Rattle.key_lines.specs.declared.Column.{Column}
 use Rattle.key_lines.specs.Lines.{column_bytes, columns_bytes, line, FieldPut, LinePut}
 
@@ -21,63 +22,102 @@ field_as l at b n e h k m = rw e (record { put = h; long = sym k; most = m })
 
 -- ---- Column after column
 
--- The first i of five columns are put into a line, from its fifth byte on.
-pub record Columns (l : List ℕ) (cs : List Column) (b : List ℕ) (end i : ℕ) : Type 0 where
+-- what the first i columns add to a line's length
+pub record Widths (cs : List Column) (n i : ℕ) : Type 0 where
+  pub wide : ℕ
+  pub is : n ≡ min (5 + wide) 18446744073709551615
+  pub whole : length (columns_bytes cs) ≡ wide + length (columns_bytes (drop i cs))
+
+pub widths_none : (cs : List Column) → Widths cs 5 0
+widths_none cs = record { wide = 0; is = refl; whole = omega arith }
+
+next_column : (cs : List Column) (i : ℕ) (d : Column) → i < length cs → columns_bytes (drop i cs) ≡ column_bytes (get_or cs i d) ++ columns_bytes (drop (i + 1) cs)
+next_column cs i d h = rw (add-one i) (ap columns_bytes (drop-cons cs i d h))
+
+no_column : (cs : List Column) (i : ℕ) → length cs ≤ i → columns_bytes (drop i cs) ≡ []
+no_column cs i h = ap columns_bytes (drop_of_length-le cs {i = i} h)
+
+module _ {cs : List Column} {n i : ℕ} (p : Widths cs n i) where
+  pub widths_more : i < length cs → (d : Column) (m w : ℕ) → w ≡ length (column_bytes (get_or cs i d)) → m ≡ min (n + w) 18446744073709551615 → Widths cs m (i + 1)
+  widths_more h d m w e f =
+      let x = column_bytes (get_or cs i d) in
+      let q : length (columns_bytes (drop i cs)) ≡ length x + length (columns_bytes (drop (i + 1) cs)) = ap length (next_column cs i d h) ∙ length-append x (columns_bytes (drop (i + 1) cs)) in
+      record { wide = p.wide + w; is = omega (arith, p.is); whole = omega (arith, p.whole) }
+
+  pub widths_all : length cs ≤ i → n ≡ min (5 + length (columns_bytes cs)) 18446744073709551615
+  widths_all h = let q : length (columns_bytes (drop i cs)) ≡ 0 = ap length (no_column cs i h) in omega (arith, p.is, p.whole)
+
+-- after the word the first i columns are put from an offset on, where the whole line fits
+pub record Columns (l : List ℕ) (at : ℕ) (word : List ℕ) (cs : List Column) (b : List ℕ) (end i : ℕ) : Type 0 where
   pub bytes : List ℕ
-  pub five : length cs ≡ 5
-  pub few : i ≤ 5
-  pub room : length l ≡ 110
-  pub long : length b ≡ 110
-  pub most : end ≤ 4 + 21 * i
-  pub size : 4 + length bytes ≡ end
-  pub is : b ≡ put_at l 4 bytes
+  pub room : at + (5 + length (columns_bytes cs)) ≤ length l
+  pub size : at + (4 + length bytes) ≡ end
+  pub put : Put l at (4 + length bytes) (word ++ bytes) b
   pub whole : columns_bytes cs ≡ bytes ++ columns_bytes (drop i cs)
 
-pub columns_none : {l : List ℕ} {cs : List Column} → length cs ≡ 5 → length l ≡ 110 → Columns l cs l 4 0
-columns_none {l} e h =
-    record { bytes = []; five = e; few = omega arith; room = h; long = h; most = omega arith; size = refl; is = sym (put_at-none l 4); whole = refl }
+pub columns_none : (l : List ℕ) (at : ℕ) (word : List ℕ) (cs : List Column) {b : List ℕ} → length word ≡ 4 → at + (5 + length (columns_bytes cs)) ≤ length l → b ≡ put_at l at word
+    → Columns l at word cs b (at + 4) 0
+columns_none l at word cs e h f =
+    record { bytes = []; room = h; size = refl; put = record { size = ap length (append-nil word) ∙ e; is = f ∙ ap (put_at l at) (sym (append-nil word)) }; whole = refl }
 
-module _ {l : List ℕ} {cs : List Column} {b : List ℕ} {end i : ℕ} (p : Columns l cs b end i) where
-  pub columns_more : i < 5 → (c : List ℕ) (d : Column) (w : ℕ) → FieldPut b end (get_or cs i d) c w → Columns l cs c (end + w) (i + 1)
-  columns_more h c d w f =
-      let lt : i < length cs = omega (arith, p.five) in
+module _ {l : List ℕ} {at : ℕ} {word : List ℕ} {cs : List Column} {b : List ℕ} {end i : ℕ} (p : Columns l at word cs b end i) where
+  -- what is left of the line's room
+  pub columns_room : i < length cs → (d : Column) → end + length (column_bytes (get_or cs i d)) ≤ length l
+  columns_room h d =
       let x = column_bytes (get_or cs i d) in
-      let q = put_then (record { size = refl; is = p.is }) x (sym f.long) f.put (sym p.size) (omega (arith, p.size, p.most, p.room, f.most)) in
-      let n : columns_bytes (drop i cs) ≡ x ++ columns_bytes (drop (i + 1) cs) = rw (add-one i) (ap columns_bytes (drop-cons cs i d lt)) in
+      let y = columns_bytes (drop (i + 1) cs) in
+      let q : length (columns_bytes cs) ≡ length p.bytes + (length x + length y) =
+      ap length p.whole ∙ length-append p.bytes (columns_bytes (drop i cs)) ∙ ap (λ (n : ℕ). length p.bytes + n) (ap length (next_column cs i d h) ∙ length-append x y) in
+      omega (arith, p.room, p.size)
+
+  pub columns_more : i < length cs → (c : List ℕ) (d : Column) (w : ℕ) → FieldPut b end (get_or cs i d) c w → Columns l at word cs c (end + w) (i + 1)
+  columns_more h c d w f =
+      let x = column_bytes (get_or cs i d) in
+      let y = columns_bytes (drop (i + 1) cs) in
+      let r = columns_room h d in
+      let q = put_then p.put x (sym f.long) f.put (sym p.size) (omega (arith, p.size, f.long)) in
+      let k = length-append p.bytes x in
       record {
         bytes = p.bytes ++ x;
-        five = p.five;
-        few = omega arith;
         room = p.room;
-        long = ap length f.put ∙ put_at-length b end x ∙ p.long;
-        most = omega (arith, p.most, f.most);
-        size = omega (arith, p.size, q.size);
-        is = q.is;
-        whole = p.whole ∙ ap (λ (y : List ℕ). p.bytes ++ y) n ∙ sym (append_assoc p.bytes x (columns_bytes (drop (i + 1) cs)));
+        size = omega (arith, p.size, f.long);
+        put = record { size = ap length (sym (append_assoc word p.bytes x)) ∙ q.size ∙ omega (arith, f.long); is = q.is ∙ ap (put_at l at) (append_assoc word p.bytes x) };
+        whole = p.whole ∙ ap (λ (z : List ℕ). p.bytes ++ z) (next_column cs i d h) ∙ sym (append_assoc p.bytes x y);
       }
 
-  -- all are put, between the word and a newline
-  pub columns_all : (z word : List ℕ) {c : List ℕ} → 5 ≤ i → length z ≡ 110 → length word ≡ 4 → l ≡ put_at z 0 word → c ≡ put_at b end (10 ∷ [])
-      → (take (end + 1) c ≡ line word cs) × (end + 1 ≡ length (line word cs))
-  columns_all z word {c} h s f w g =
-      let d : drop i cs ≡ [] = drop_of_length-le cs {i = i} (omega (arith, p.five)) in
-      let e : columns_bytes cs ≡ p.bytes = p.whole ∙ ap (λ (x : List Column). p.bytes ++ columns_bytes x) d ∙ append-nil p.bytes in
-      let m : end ≤ 109 = omega (arith, p.most) in
-      let q = put_then (record { size = f; is = w }) p.bytes refl p.is refl (omega (arith, p.size)) in
-      let r = put_then q (10 ∷ []) refl g (omega (arith, p.size)) (omega (arith, p.size)) in
-      let u = word ++ p.bytes ++ (10 ∷ []) in
-      let v : u ≡ line word cs = ap (λ (x : List ℕ). word ++ x ++ (10 ∷ [])) (sym e) in
-      let n : end + 1 ≡ length u = omega (arith, r.size, p.size) in
-      (rw (r.is, put_at_in z 0 u (omega arith)) (take_at u _ (end + 1) (sym n) ∙ v), n ∙ ap length v)
+  -- all are put, and the newline after them
+  pub columns_all : {c : List ℕ} → length cs ≤ i → c ≡ put_at b end (10 ∷ []) → c ≡ put_at l at (line word cs)
+  columns_all {c} h g =
+      let e : columns_bytes cs ≡ p.bytes = p.whole ∙ ap (λ (x : List ℕ). p.bytes ++ x) (no_column cs i h) ∙ append-nil p.bytes in
+      let k : length (columns_bytes cs) ≡ length p.bytes = ap length e in
+      let r = put_then p.put (10 ∷ []) refl g (sym p.size) (omega (arith, p.room)) in
+      r.is ∙ ap (λ (x : List ℕ). put_at l at (word ++ x ++ (10 ∷ []))) (sym e)
 
 -- ---- The line
 
-module _ (l : List ℕ) (at : ℕ) {bs xs : List ℕ} {n : ℕ} (e : (xs ≡ bs) × (n ≡ length bs)) where
-  pub line_out : length l < at + n → LinePut l at bs l 0
-  line_out h = let o = lt-leb (at + length bs) (length l) (omega (arith, e.1)) in record { put = kept l at bs (sym e.1) h; long = rw o }
+line-length : (word : List ℕ) (cs : List Column) → length word ≡ 4 → length (line word cs) ≡ 5 + length (columns_bytes cs)
+line-length word cs e =
+    let a = length-append (word ++ columns_bytes cs) (10 ∷ []) in
+    let b = length-append word (columns_bytes cs) in
+    omega arith
 
-  pub line_in_lem : {c : List ℕ} → at + n ≤ length l → c ≡ put_at l at xs → LinePut l at bs c n
-  line_in_lem h g = let o = le-leb (at + length bs) (length l) (omega (arith, e.1)) in record { put = g ∙ ap (put_at l at) e.0; long = rw o e.1 }
+module _ (l : List ℕ) (at : ℕ) (word : List ℕ) (cs : List Column) (e : length word ≡ 4) {n : ℕ} (m : n ≡ min (5 + length (columns_bytes cs)) 18446744073709551615) where
+  -- the line fits where as many bytes as were counted do
+  pub line_room : length l < 9223372036854775808 → at + n ≤ length l → (at + (5 + length (columns_bytes cs)) ≤ length l) × (n ≡ 5 + length (columns_bytes cs))
+  line_room k h = (omega arith, omega arith)
+
+  pub line_out : length l < at + n → LinePut l at (line word cs) l 0
+  line_out h =
+      let s = line-length word cs e in
+      let o = lt-leb (at + length (line word cs)) (length l) (omega arith) in
+      record { put = kept l at (line word cs) {n = length (line word cs)} refl (omega arith); long = rw o }
+
+  pub line_in_lem : {c : List ℕ} → length l < 9223372036854775808 → at + n ≤ length l → c ≡ put_at l at (line word cs) → LinePut l at (line word cs) c n
+  line_in_lem k h g =
+      let s = line-length word cs e in
+      let r = line_room k h in
+      let o = le-leb (at + length (line word cs)) (length l) (omega (arith, r.0)) in
+      record { put = g; long = rw o (omega (arith, r.1)) }
 
 -- what is put lies in the buffer
 pub put-most : {l bs c : List ℕ} {at n : ℕ} → LinePut l at bs c n → n ≤ length l

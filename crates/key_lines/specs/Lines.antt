@@ -1,14 +1,12 @@
 -- Marking key (document 01, "Marking key and estimate"): columns and lines.
-use Rattle.std.specs.Prelude.{ℕ, zero, suc, ◌+◌, ◌/◌, ◌%◌, ◌≤◌, ◌≡◌, List, [], ◌∷◌, ◌++◌, length, replicate, ltb, leb}
+use Rattle.std.specs.Prelude.{ℕ, zero, suc, ◌+◌, ◌/◌, ◌%◌, ◌≤◌, ◌≡◌, List, [], ◌∷◌, ◌++◌, length, replicate, ltb, leb, Option, Some, None}
 use Rattle.layout.specs.Choice.{pick}
 use Rattle.layout.specs.Puts.{put_at}
 use Rattle.layout.specs.Records.{num_samples}
 use Rattle.layout.specs.declared.DspFormat.{DspFormat}
-use Rattle.reader.specs.declared.LoopStart.{LoopStart}
-use Rattle.reader.specs.declared.LoopStart.TheVariants.{None, Block}
 use Rattle.reader.specs.declared.HpsReader.{HpsReader}
 use Rattle.key_lines.specs.declared.Column.{Column}
-use Rattle.key_lines.specs.declared.Column.TheVariants.{Number, Start, Minus, Nothing}
+use Rattle.key_lines.specs.declared.Column.TheVariants.{Number, Start, Minus}
 
 -- "right-justified decimals": the last digit, before it the other digits, or blanks where there are none
 unfoldable pub column : (width n : ℕ) → List ℕ
@@ -20,7 +18,6 @@ abbrev pub column_bytes : Column → List ℕ
 column_bytes (Number n) = column 11 n
 column_bytes (Start n) = column 21 n
 column_bytes Minus = replicate 10 32 ++ (45 ∷ [])
-column_bytes Nothing = []
 
 -- columns, one after the other
 abbrev pub columns_bytes : List Column → List ℕ
@@ -36,9 +33,9 @@ abbrev pub stop_line : ℕ → List ℕ
 stop_line n = line (83 ∷ 84 ∷ 79 ∷ 80 ∷ []) (Number n ∷ [])
 
 -- "Loop start in HEAD is the block's index, or `-` in the last of its 11 columns."
-abbrev pub loop_column : LoopStart → Column
+abbrev pub loop_column : Option ℕ → Column
 loop_column None = Minus
-loop_column (Block i) = Number i
+loop_column (Some i) = Number i
 
 -- "HEAD rate, channels, blocks, loop start or `-`"
 abbrev pub head_line : HpsReader → List ℕ

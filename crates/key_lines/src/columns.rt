@@ -1,19 +1,18 @@
 // A line's columns, put into a lent buffer: right-justified decimals, or `-`.
-ghost use Rattle.std.specs.Prelude.{◌≡◌};
+ghost use Rattle.std.specs.Prelude.{◌≡◌, ◌+◌, ◌%◌, length};
 ghost use Rattle.layout.specs.Puts.{put_at};
-ghost use Rattle.key_lines.specs.Lines.{column, FieldPut};
+ghost use Rattle.key_lines.specs.Lines.{column, column_bytes, FieldPut};
 
 use crate::Column;
 use layout::fields::inside;
 use layout_put::{put_bytes, put_fill};
 
+// The last digit of a number.
 fn digit(n: u64) -> u8
     ensures { result ≡ 48 + n % 10 }
 {
-    (48 + n % 10) as u8
+    b'0' + (n % 10) as u8
 }
-
-ghost use Rattle.std.specs.Prelude.{◌+◌, ◌%◌};
 
 // A number right-justified in so many columns, where they fit: from the last digit on; once no digit is left, blanks.
 pub fn put_column(out: &mut [u8], at: usize, width: usize, n: u64)
@@ -21,16 +20,25 @@ pub fn put_column(out: &mut [u8], at: usize, width: usize, n: u64)
 {
     if inside(out.len(), at, width) {
         let mut left = n;
-        let mut k = width;
-        while 0 < k {
-            k -= 1;
+        for k in (0..width).rev() {
             out[at + k] = digit(left);
             if left < 10 {
-                put_fill(out, at, k, 32);
+                put_fill(out, at, k, b' ');
                 return;
             }
-            left = left / 10;
+            left /= 10;
         }
+    }
+}
+
+// How many bytes a column has.
+pub(crate) fn width(column: Column) -> usize
+    ensures { result ≡ length (column_bytes column) }
+{
+    match column {
+        Column::Number(_) => 11,
+        Column::Start(_) => 21,
+        Column::Minus => 11,
     }
 }
 
@@ -51,6 +59,5 @@ pub(crate) fn put_field(out: &mut [u8], at: usize, column: Column) -> usize
             put_bytes(out, at, b"          -");
             11
         }
-        Column::Nothing => 0,
     }
 }

@@ -1,5 +1,5 @@
 // The lines of the listing (document 01, "Marking key and estimate"), each put into a lent buffer from an offset on.
-// Where a line fits wholly its length is answered; else nothing is put, and 0.
+// The answer is how many bytes were put: the line's length, or 0 where it does not fit wholly.
 #![tactic(auto)]
 
 ghost use Rattle.std.specs.Prelude.{◌≡◌};
@@ -9,50 +9,45 @@ ghost use Rattle.key_lines.specs.Lines.{stop_line, head_line, loop_column, block
 use crate::line::put_line;
 use layout::{BlockHeader, DspFormat};
 use layout_sizes::num_samples;
-use reader::{HpsReader, LoopStart};
+use reader::HpsReader;
 
 pub mod columns; // columns.rt: a column, right-justified
 pub mod line; // line.rt: a word, its columns and a newline
 
-// A column: a number of 11 columns, a cue's start of 21, `-` in the last of 11; or no column.
+// A column: a number of 11 columns, a cue's start of 21, or `-` in the last of 11.
 #[derive(Clone, Copy)]
 pub enum Column {
     Number(u64),
     Start(u64),
     Minus,
-    Nothing,
 }
 
 pub fn put_stop(out: &mut [u8], at: usize, number: u32) -> usize
     ensures { LinePut out.old at (stop_line number) out.new result }
 {
-    let none = Column::Nothing;
-    let columns = [Column::Number(number as u64), none, none, none, none];
-    put_line(out, at, b"STOP", columns)
+    put_line(out, at, b"STOP", &[Column::Number(number as u64)])
 }
 
 // The loop block's index, or `-`.
-fn loop_column(start: LoopStart) -> Column
+fn loop_column(start: Option<usize>) -> Column
     ensures { result ≡ loop_column start }
 {
     match start {
-        LoopStart::None => Column::Minus,
-        LoopStart::Block(i) => Column::Number(i as u64),
+        None => Column::Minus,
+        Some(i) => Column::Number(i as u64),
     }
 }
 
 pub fn put_head(out: &mut [u8], at: usize, r: HpsReader) -> usize
     ensures { LinePut out.old at (head_line r) out.new result }
 {
-    let start = r.loop_start;
     let columns = [
         Column::Number(r.rate as u64),
         Column::Number(r.count as u64),
         Column::Number(r.blocks as u64),
-        loop_column(start),
-        Column::Nothing,
+        loop_column(r.loop_start),
     ];
-    put_line(out, at, b"HEAD", columns)
+    put_line(out, at, b"HEAD", &columns)
 }
 
 pub fn put_block(
@@ -72,26 +67,22 @@ pub fn put_block(
         Column::Number(num_samples(h.end_address, format)),
         Column::Number(h.cues as u64),
     ];
-    put_line(out, at, b"BLCK", columns)
+    put_line(out, at, b"BLCK", &columns)
 }
 
 pub fn put_loop(out: &mut [u8], at: usize, start: u64) -> usize
     ensures { LinePut out.old at (loop_line start) out.new result }
 {
-    let none = Column::Nothing;
-    let columns = [Column::Start(start), none, none, none, none];
-    put_line(out, at, b"LOOP", columns)
+    put_line(out, at, b"LOOP", &[Column::Start(start)])
 }
 
 pub fn put_cue(out: &mut [u8], at: usize, start: u64, id: u32) -> usize
     ensures { LinePut out.old at (cue_line start id) out.new result }
 {
-    let none = Column::Nothing;
-    let number = Column::Number(id as u64);
     put_line(
         out,
         at,
         b"CUEP",
-        [Column::Start(start), number, none, none, none],
+        &[Column::Start(start), Column::Number(id as u64)],
     )
 }

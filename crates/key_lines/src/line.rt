@@ -1,33 +1,36 @@
-// A line: a four-letter word, five columns at most, and a newline.
-ghost use Rattle.key_lines.specs.Lines.{line, LinePut};
+// A line: a four-letter word, its columns, and a newline.
+ghost use Rattle.std.specs.Prelude.{◌≡◌, ◌+◌, length, min};
+ghost use Rattle.key_lines.specs.Lines.{columns_bytes, line, LinePut};
 
 use crate::Column;
-use crate::columns::put_field;
+use crate::columns::{put_field, width};
 use layout::fields::inside;
 use layout_put::{put_bytes, put_u8};
 
-// The longest line: the word, five cue starts, the newline.
-const LONGEST: usize = 110;
-
-// Puts the line where it fits wholly, and answers its length; else nothing, and 0.
-pub fn put_line(out: &mut [u8], at: usize, word: &[u8; 4], columns: [Column; 5]) -> usize
-    ensures { LinePut out.old at (line word.now columns) out.new result }
+// How many bytes a line with these columns has, or usize::MAX where that is larger.
+fn line_length(columns: &[Column]) -> usize
+    ensures { result ≡ min (5 + length (columns_bytes columns.now)) usize.MAX }
 {
-    let letters: &[u8] = word;
-    let mut line = [0u8; LONGEST];
-    put_bytes(&mut line, 0, letters);
-    let mut end: usize = 4;
-    let mut i: usize = 0;
-    while i < 5 {
-        let column = columns[i];
-        end += put_field(&mut line, end, column);
-        i += 1;
+    let mut n: usize = 5;
+    for column in columns {
+        n = n.saturating_add(width(*column));
     }
-    put_u8(&mut line, end, b'\n');
-    let n = end + 1;
-    if inside(out.len(), at, n) {
-        put_bytes(out, at, &line[..n]);
-        return n;
+    n
+}
+
+// Puts the line where it fits wholly, and answers how many bytes were put.
+pub fn put_line(out: &mut [u8], at: usize, word: &[u8; 4], columns: &[Column]) -> usize
+    ensures { LinePut out.old at (line word.now columns.now) out.new result }
+{
+    let n = line_length(columns);
+    if !inside(out.len(), at, n) {
+        return 0;
     }
-    0
+    put_bytes(out, at, word);
+    let mut end = at + word.len();
+    for column in columns {
+        end += put_field(out, end, *column);
+    }
+    put_u8(out, end, b'\n');
+    n
 }

@@ -1,4 +1,5 @@
 -- The lines from each stage on: the next one, and those after it; how long lines are; and how many fit.
+use Rattle.std.proofs.Common.{Option, Some, None}
 use Prim.Native.Nat.{ℕ, zero, suc, ◌+◌, ◌-◌, ◌<◌, ◌≤◌}
 use mathlib.Core.Path.{◌≡◌, refl, ap, sym, ◌∙◌}
 use mathlib.Core.List.{List, [], ◌∷◌, ◌++◌, flatten, append_assoc}
@@ -16,8 +17,6 @@ use Rattle.reader.specs.CuesReadBack.{CueAnswer, first_cursor, cue_step}
 use Rattle.reader.specs.declared.HpsReader.{HpsReader}
 use Rattle.reader.specs.declared.CueIterator.{CueIterator}
 use Rattle.key_listing.specs.declared.Stage.{Stage}
-use Rattle.reader.specs.declared.LoopStart.{LoopStart}
-use Rattle.reader.specs.declared.LoopStart.TheVariants.{None, Block}
 use Rattle.key_lines.specs.Lines.{column_bytes, loop_column, stop_line, head_line, block_line, loop_line, cue_line}
 use Rattle.key_lines.proofs.ColumnLaws.{column-length}
 use Rattle.key_listing.specs.MarkingKey.{on_cue, cue_calls, cue_lines, block_lines, opened_lines, lines_from}
@@ -127,9 +126,9 @@ sized_blocks s r i (o ∷ os) = of (read_header s o) (sized_blocks s r (i + 1) o
         sized_more (block_line (channel_in r 0).format i o (length_in h) h.cues) (block_lines s r (i + 1) os) 60
         (simp (length-append, column-length)) (omega arith) (omega arith) z
 
-loop_width : (l : LoopStart) → length (column_bytes (loop_column l)) ≡ 11
+loop_width : (l : Option ℕ) → length (column_bytes (loop_column l)) ≡ 11
 loop_width None = refl
-loop_width (Block i) = column-length 11 i
+loop_width (Some i) = column-length 11 i
 
 pub sized : (s : List ℕ) (r : HpsReader) (stage : Stage) → Sized (lines_from s r stage)
 unfolding Sized lines_from opened_lines

@@ -1,24 +1,17 @@
--- Reads and the enums that answer them: what a value or a refusal says of the slot, and which answer a read comes to.
+-- Reads and what they answer: what a value or a refusal says of the slot, and which answer a read comes to.
 use Prim.Native.Nat.{ℕ, ◌≤◌, ◌<◌}
-use mathlib.Core.Path.{◌≡◌, refl, sym, ap, ◌∙◌}
+use mathlib.Core.Path.{◌≡◌, sym, ap, ◌∙◌}
 use mathlib.Core.Bool.{Bool, true, false}
 use mathlib.Core.List.{List}
 use native.Mathlib.Omega.{arith}
 use lib.ListN.{length}
 use lib.Dec.{leb}
 use borrow.Author.Tests.{leb-true, leb-false, le-leb, lt-leb}
-use Rattle.layout.specs.Records.{Read, field, on}
-use Rattle.layout.specs.Answers.{refusal_of, u8_says, u16_says, u32_says, i16_says, i32_says, context_says, header_says, cue_says, format_says, answer_says}
-use Rattle.layout.specs.declared.fields.U8Read.{U8Read}
-use Rattle.layout.specs.declared.fields.U16Read.{U16Read}
-use Rattle.layout.specs.declared.fields.U32Read.{U32Read}
-use Rattle.layout.specs.declared.fields.I16Read.{I16Read}
-use Rattle.layout.specs.declared.fields.I32Read.{I32Read}
-use Rattle.layout.specs.declared.answers.ContextRead.{ContextRead}
-use Rattle.layout.specs.declared.answers.HeaderRead.{HeaderRead}
-use Rattle.layout.specs.declared.answers.CueRead.{CueRead}
-use Rattle.layout.specs.declared.answers.FormatRead.{FormatRead}
-use Rattle.layout.specs.declared.answers.ReadAnswer.{ReadAnswer}
+use Rattle.std.specs.Prelude.{Result, Ok, Err}
+use Rattle.std.specs.Result.{IsErrAnd}
+use Rattle.layout.specs.Records.{Read, field}
+use Rattle.layout.specs.Answers.{number_of, says}
+use Rattle.layout.specs.declared.refusal.Refusal.{Refusal}
 use Rattle.layout.proofs.Cases.{by_cases}
 
 -- ---- A field
@@ -72,69 +65,26 @@ field_later {s = s} {past} {a} {n} m later b h =
 
 -- ---- Its answer
 
--- an enum with a case for each value read and one for each refusal's number
-pub record Answers {A B : Type 0} (says : B → Read A) (v : A → B) (none : ℕ → B) : Type 0 where
-  pub value : (a : A) → says (v a) ≡ Read.value a
-  pub refused : (n : ℕ) → says (none n) ≡ Read.refused n
-
-pub u8 : Answers u8_says U8Read.Value U8Read.Refused
-u8 = record { value = λ a. refl; refused = λ n. refl }
-
-pub u16 : Answers u16_says U16Read.Value U16Read.Refused
-u16 = record { value = λ a. refl; refused = λ n. refl }
-
-pub u32 : Answers u32_says U32Read.Value U32Read.Refused
-u32 = record { value = λ a. refl; refused = λ n. refl }
-
-pub i16 : Answers i16_says I16Read.Value I16Read.Refused
-i16 = record { value = λ a. refl; refused = λ n. refl }
-
-pub i32 : Answers i32_says I32Read.Value I32Read.Refused
-i32 = record { value = λ a. refl; refused = λ n. refl }
-
-pub context : Answers context_says ContextRead.Value ContextRead.Refused
-context = record { value = λ a. refl; refused = λ n. refl }
-
-pub header : Answers header_says HeaderRead.Value HeaderRead.Refused
-header = record { value = λ a. refl; refused = λ n. refl }
-
-pub cue : Answers cue_says CueRead.Value CueRead.Refused
-cue = record { value = λ a. refl; refused = λ n. refl }
-
-pub format : Answers format_says FormatRead.Value FormatRead.Refused
-format = record { value = λ a. refl; refused = λ n. refl }
-
-module _ {A B : Type 0} {says : B → Read A} {v : A → B} {none : ℕ → B} (k : Answers says v none) where
+module _ {A : Type 0} {s : List ℕ} {past : ℕ} {a : A} where
   -- a value was answered: it was read
-  pub value_read : {q : Read A} {r : B} {x : A} → says r ≡ q → r ≡ v x → q ≡ Read.value x
-  value_read {x = x} e f = sym e ∙ ap says f ∙ k.value x
+  pub got : {x : A} → Read.value x ≡ field s past a → Got s past a x
+  got {x} e = field_value s past a x (sym e)
 
-  -- a refusal was answered: the read is refused
-  pub short_read : {q : Read A} {r : B} {n : ℕ} → says r ≡ q → r ≡ none n → q ≡ Read.refused n
-  short_read {n = n} e f = sym e ∙ ap says f ∙ k.refused n
+  -- a refusal was answered: the field does not lie in the slot
+  pub missed : {n : ℕ} → Read.refused n ≡ field s past a → Missed s past a n
+  missed {n} e = field_refused s past a n (sym e)
 
-  -- the same, with the number that is handed on
-  pub number_read : {q : Read A} {r : B} {n m : ℕ} → says r ≡ q → r ≡ none n → m ≡ refusal_of (says r) → q ≡ Read.refused m
-  number_read {n = n} e f g = short_read e f ∙ ap Read.refused (sym (g ∙ ap refusal_of (ap says f ∙ k.refused n)))
+-- ---- Handing on
 
-  pub got : {s : List ℕ} {past : ℕ} {a x : A} {r : B} → says r ≡ field s past a → r ≡ v x → Got s past a x
-  got {s} {past} {a} {x} e f = field_value s past a x (value_read e f)
+-- what a `?` hands on is the error that was answered
+pub passed_on : {A E : Type 0} (r : Result A E) (e : E) → IsErrAnd r (λ x. x ≡ e) → r ≡ Err e
+passed_on (Ok a) e h = absurd h
+passed_on (Err x) e h = ap Err h
 
-  -- no value was answered: the field does not lie in the slot
-  pub short : {s : List ℕ} {past : ℕ} {a : A} {r : B} {n : ℕ} → says r ≡ field s past a → r ≡ none n → Missed s past a n
-  short {s} {past} {a} {n = n} e f = field_refused s past a n (short_read e f)
-
-  -- the same, with the number that is handed on
-  pub missed : {s : List ℕ} {past : ℕ} {a : A} {r : B} {n m : ℕ} → says r ≡ field s past a → r ≡ none n → m ≡ refusal_of (says r) → Missed s past a m
-  missed {s} {past} {a} {m = m} e f g = field_refused s past a m (number_read e f g)
-
--- an answer whose value stands beside it
-module _ {A : Type 0} {q : Read A} {a : ReadAnswer} (v : A) (e : on (answer_says a) Read.refused (λ t. Read.value v) ≡ q) where
-  pub beside_read : a ≡ ReadAnswer.Value → q ≡ Read.value v
-  beside_read f = sym e ∙ rw f
-
-  pub beside_number : {n m : ℕ} → a ≡ ReadAnswer.Refused n → m ≡ refusal_of (answer_says a) → q ≡ Read.refused m
-  beside_number f g = sym e ∙ rw (f, g, f)
+-- a refused field is handed on where the fields up to a later place are read
+pub handed_on : {A B : Type 0} {s : List ℕ} {past : ℕ} {a : A} (r : Result B Refusal) (e : Refusal) → IsErrAnd r (λ x. x ≡ e)
+    → Missed s past a (number_of e) → (later : ℕ) (b : B) → past ≤ later → says r ≡ field s later b
+handed_on r e h m later b l = rw (passed_on r e h) (field_later m later b l)
 
 -- ---- The answer that a read comes to
 

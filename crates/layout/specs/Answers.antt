@@ -1,85 +1,64 @@
--- What the reads answer: for each enum, from its cases, the refusal's number or the value that was read.
-use Prim.{Unit, tt}
-use Rattle.std.specs.Prelude.{ℕ, List, ℤ}
-use Rattle.layout.specs.Records.{Read, on, magic}
-use Rattle.layout.specs.declared.fields.U8Read.{U8Read}
-use Rattle.layout.specs.declared.fields.U16Read.{U16Read}
-use Rattle.layout.specs.declared.fields.U32Read.{U32Read}
-use Rattle.layout.specs.declared.fields.I16Read.{I16Read}
-use Rattle.layout.specs.declared.fields.I32Read.{I32Read}
-use Rattle.layout.specs.declared.FrameContext.{FrameContext}
-use Rattle.layout.specs.declared.BlockHeader.{BlockHeader}
-use Rattle.layout.specs.declared.CuePoint.{CuePoint}
-use Rattle.layout.specs.declared.DspFormat.{DspFormat}
-use Rattle.layout.specs.declared.Channel.{Channel}
-use Rattle.layout.specs.declared.answers.ContextRead.{ContextRead}
-use Rattle.layout.specs.declared.answers.HeaderRead.{HeaderRead}
-use Rattle.layout.specs.declared.answers.CueRead.{CueRead}
-use Rattle.layout.specs.declared.answers.FormatRead.{FormatRead}
-use Rattle.layout.specs.declared.answers.ReadAnswer.{ReadAnswer}
-use Rattle.layout.specs.declared.answers.CoefficientsRead.{CoefficientsRead}
-use Rattle.layout.specs.declared.answers.ChannelRead.{ChannelRead}
-use Rattle.layout.specs.declared.answers.MagicRead.{MagicRead}
+-- What the reads answer: from each case, the refusal's number or the value that was read.
+use Rattle.std.specs.Prelude.{ℕ, Result, Ok, Err}
+use Rattle.layout.specs.Records.{Read}
+use Rattle.layout.specs.declared.refusal.Refusal.{Refusal}
+use Rattle.layout.specs.declared.refusal.Refusal.TheVariants.{SlotEndsEarly, WrongMagic, WrongChannelCount, UnknownFormat, TooManyBlocks, NoSuchChannel}
+use Rattle.layout.specs.declared.refusal.Refusal.TheVariants.{WrongSlotLength, BadCue, RateZero, TooShort, WrongDataLength, LengthsDiffer, TooLarge}
+use Rattle.layout.specs.declared.refusal.Refusal.TheVariants.{LentTooShort, RatesDiffer, CueTableFull, AlreadyPushed, RateChanged, CoefficientsChanged}
+use Rattle.layout.specs.declared.refusal.Refusal.TheVariants.{PastSlotEnd, NoMoreBlocks, AfterLast, NoBlock, NotLast, OtherChannelCount}
+use Rattle.layout.specs.declared.refusal.Refusal.TheVariants.{NotAdpcm, LevelTooHigh, NotServed, NotHeld}
 
--- ---- The enums
+-- ---- The number of a refusal
 
-abbrev pub u8_says : U8Read → Read ℕ
-u8_says (U8Read.Value x) = Read.value x
-u8_says (U8Read.Refused n) = Read.refused n
+abbrev pub number_of : Refusal → ℕ
+-- "1 slot ends early; 2 first 8 bytes wrong; 3 channel count not 1 or 2; 4 format unknown; 5 over 512 blocks; 6 channel not below the count"
+number_of SlotEndsEarly = 1
+number_of WrongMagic = 2
+number_of WrongChannelCount = 3
+number_of UnknownFormat = 4
+number_of TooManyBlocks = 5
+number_of NoSuchChannel = 6
+-- "7 slot over 16,777,216 bytes, or under 192 at begin; 8 start over 2,147,483,647 or range length 0; 9 rate 0 in a push"
+number_of WrongSlotLength = 7
+number_of BadCue = 8
+number_of RateZero = 9
+-- "10 length 0 or 1; 11 data not as long as the bytes for its length; 12 channel lengths differ; 13 over 65,536 bytes (mono) or 32,768 per channel (stereo)"
+number_of TooShort = 10
+number_of WrongDataLength = 11
+number_of LengthsDiffer = 12
+number_of TooLarge = 13
+-- "14 lent buffer shorter than what is handed out; 15 channel rates differ"
+number_of LentTooShort = 14
+number_of RatesDiffer = 15
+-- "20 table holds 128 cues; 21 a push was accepted; 22 rate, 23 coefficients other than the first block's; 24 block passes the slot's end; 25 512 blocks pushed"
+number_of CueTableFull = 20
+number_of AlreadyPushed = 21
+number_of RateChanged = 22
+number_of CoefficientsChanged = 23
+number_of PastSlotEnd = 24
+number_of NoMoreBlocks = 25
+-- "26 push after the last block, or finish after finish; 27 finish with no block; 28 finish before the last block; 29 push of another channel count"
+number_of AfterLast = 26
+number_of NoBlock = 27
+number_of NotLast = 28
+number_of OtherChannelCount = 29
+-- "refuses with 30 when the channel isn't ADPCM", "31 a level above 1,023", "32 a take not served", "33 the return of a frame that the caller doesn't hold" (document 02)
+number_of NotAdpcm = 30
+number_of LevelTooHigh = 31
+number_of NotServed = 32
+number_of NotHeld = 33
 
-abbrev pub u16_says : U16Read → Read ℕ
-u16_says (U16Read.Value x) = Read.value x
-u16_says (U16Read.Refused n) = Read.refused n
+-- ---- What is answered
 
-abbrev pub u32_says : U32Read → Read ℕ
-u32_says (U32Read.Value x) = Read.value x
-u32_says (U32Read.Refused n) = Read.refused n
+-- A read's answer: the value, or the refusal's number.
+abbrev pub says : {A : Type 0} → Result A Refusal → Read A
+says (Ok a) = Read.value a
+says (Err r) = Read.refused (number_of r)
 
-abbrev pub i16_says : I16Read → Read ℤ
-i16_says (I16Read.Value x) = Read.value x
-i16_says (I16Read.Refused n) = Read.refused n
-
-abbrev pub i32_says : I32Read → Read ℤ
-i32_says (I32Read.Value x) = Read.value x
-i32_says (I32Read.Refused n) = Read.refused n
-
-abbrev pub context_says : ContextRead → Read FrameContext
-context_says (ContextRead.Value c) = Read.value c
-context_says (ContextRead.Refused n) = Read.refused n
-
-abbrev pub header_says : HeaderRead → Read BlockHeader
-header_says (HeaderRead.Value h) = Read.value h
-header_says (HeaderRead.Refused n) = Read.refused n
-
-abbrev pub cue_says : CueRead → Read CuePoint
-cue_says (CueRead.Value c) = Read.value c
-cue_says (CueRead.Refused n) = Read.refused n
-
-abbrev pub format_says : FormatRead → Read DspFormat
-format_says (FormatRead.Value f) = Read.value f
-format_says (FormatRead.Refused n) = Read.refused n
-
-abbrev pub magic_says : MagicRead → Read (List ℕ)
-magic_says MagicRead.Right = Read.value magic
-magic_says (MagicRead.Refused n) = Read.refused n
-
--- Of an answer whose value stands beside it.
-abbrev pub answer_says : ReadAnswer → Read (Unit {0})
-answer_says ReadAnswer.Value = Read.value tt
-answer_says (ReadAnswer.Refused n) = Read.refused n
-
-abbrev pub coefficients_says : CoefficientsRead → Read (List ℤ)
-coefficients_says r = on (answer_says r.answer) Read.refused (λ t. Read.value r.coefficients)
-
-abbrev pub channel_says : ChannelRead → Read Channel
-channel_says r = on (answer_says r.answer) Read.refused (λ t. Read.value r.channel)
-
--- ---- Handing on
-
--- The number of a refused read, 0 of a value.
-abbrev pub refusal_of : {A : Type 0} → Read A → ℕ
-refusal_of (Read.refused n) = n
-refusal_of (Read.value a) = 0
+-- "A call gets the first number due in its order": that number, 0 where none is due.
+abbrev pub due_number : {A : Type 0} → Result A Refusal → ℕ
+due_number (Ok a) = 0
+due_number (Err r) = number_of r
 
 -- The value of a read, or this where it is refused.
 abbrev pub value_or : {A : Type 0} → A → Read A → A

@@ -7,8 +7,12 @@ use lib.ListN.{length}
 use lib.Dec.{leb}
 use borrow.Author.Tests.{le-leb, lt-leb}
 use Rattle.layout.specs.Choice.{pick}
-use Rattle.layout.specs.Records.{u32_at}
-use Rattle.layout.proofs.FieldLaws.{Got, Missed}
+use Rattle.std.specs.Prelude.{Result, Ok, Err}
+use Rattle.std.specs.Result.{result_unwrap_or}
+use Rattle.layout.specs.Records.{u32_at, field}
+use Rattle.layout.specs.Answers.{says}
+use Rattle.layout.specs.declared.refusal.Refusal.{Refusal}
+use Rattle.layout.proofs.FieldLaws.{got, missed}
 use Rattle.layout_number_or_zero.specs.NumberOrZero.{word_at, long_at}
 
 module _ {A : Type 0} (s : List ℕ) (past : ℕ) (a zero : A) where
@@ -18,13 +22,10 @@ module _ {A : Type 0} (s : List ℕ) (past : ℕ) (a zero : A) where
   pub number_out : length s < past → pick (leb past (length s)) a zero ≡ zero
   number_out h = rw (lt-leb past (length s) h)
 
--- what a field's answer says of it
-module _ {A : Type 0} {s : List ℕ} {past : ℕ} {a : A} (zero : A) where
-  pub number-got : {x : A} → Got s past a x → x ≡ pick (leb past (length s)) a zero
-  number-got g = g.is ∙ sym (number_in s past a zero g.inside)
-
-  pub number_missed : {n : ℕ} → Missed s past a n → zero ≡ pick (leb past (length s)) a zero
-  number_missed m = sym (number_out s past a zero m.outside)
+-- a field that was read, or 0 in its place
+pub number_read : {A : Type 0} (s : List ℕ) (past : ℕ) (a zero : A) (r : Result A Refusal) → says r ≡ field s past a → result_unwrap_or r zero ≡ pick (leb past (length s)) a zero
+number_read s past a zero (Ok x) e = let g = got e in g.is ∙ sym (number_in s past a zero g.inside)
+number_read s past a zero (Err x) e = let m = missed e in sym (number_out s past a zero m.outside)
 
 pub word_in : (s : List ℕ) (at : ℕ) → at + 4 ≤ length s → word_at s at ≡ u32_at s at
 unfolding word_at

@@ -12,12 +12,15 @@ use lib.IntN.{ℤ, pos}
 use mir.Syntax.{w16}
 use mir.Val.{SFits, of_z, to_z}
 use mir.Facts.{to_z-of_z}
-use Rattle.layout.specs.Records.{Read, field, on, u16_at, u32_at, i16_at, i16s, context_at, format_of, channel_at, read_channel, no_channel}
-use Rattle.layout.specs.Answers.{value_or}
+use Rattle.layout.specs.Records.{Read, field, on, u16_at, u32_at, i16_at, i16s, context_at, format_of, channel_at, read_channel}
+use Rattle.layout.specs.Answers.{number_of, says}
 use Rattle.layout.specs.declared.FrameContext.{FrameContext}
 use Rattle.layout.specs.declared.DspFormat.{DspFormat}
 use Rattle.layout.specs.declared.Channel.{Channel}
-use Rattle.layout.proofs.FieldLaws.{Got, Missed, field-inside, field_later, answer_in_lem}
+use Rattle.std.specs.Prelude.{Result}
+use Rattle.std.specs.Result.{IsErrAnd}
+use Rattle.layout.specs.declared.refusal.Refusal.{Refusal}
+use Rattle.layout.proofs.FieldLaws.{Got, Missed, field-inside, field_later, answer_in_lem, passed_on, handed_on}
 
 -- ---- Coefficients
 
@@ -36,13 +39,12 @@ i16s-more s at (suc n) =
 
 -- of sixteen numbers the first i are read
 pub record Reading (s : List ℕ) (at : ℕ) (zs : List ℤ) (i : ℕ) : Type 0 where
-  pub few : i ≤ 16
   pub inside : at + i * 2 ≤ length s
   pub is : zs ≡ i16s s at i ++ replicate (16 - i) (pos 0)
 
 pub reading_none : (s : List ℕ) (at : ℕ) → at ≤ length s → Reading s at (replicate 16 (pos 0)) 0
 unfolding i16s
-reading_none s at h = record { few = omega arith; inside = omega arith; is = refl }
+reading_none s at h = record { inside = omega arith; is = refl }
 
 module _ {s : List ℕ} {at : ℕ} {zs : List ℤ} {i : ℕ} (r : Reading s at zs i) where
   pub reading_more : {z : ℤ} → i < 16 → Got s (at + i * 2 + 2) (i16_at s (at + i * 2)) z → SFits w16 z → Reading s at (set zs i (to_z w16 (of_z w16 z))) (i + 1)
@@ -51,38 +53,24 @@ module _ {s : List ℕ} {at : ℕ} {zs : List ℤ} {i : ℕ} (r : Reading s at z
       let rest = replicate (16 - (i + 1)) (pos 0) in
       let n : 16 - i ≡ suc (16 - (i + 1)) = omega arith in
       record {
-        few = omega arith;
         inside = omega (arith, g.inside);
         is =
             rw (r.is, n, to_z-of_z f, set_at (i16s s at i) (pos 0) rest z i l, g.is)
             (sym (append_snoc (i16s s at i) (i16_at s (at + i * 2)) rest) ∙ ap (λ (l : List ℤ). l ++ rest) (i16s-more s at i ∙ ap (i16s s at) (sym (add-one i))));
       }
 
-  -- the one at i is refused
-  pub reading_stops : {n : ℕ} → i < 16 → Missed s (at + i * 2 + 2) (i16_at s (at + i * 2)) n → Read.refused n ≡ field s (at + 32) (i16s s at 16)
-  reading_stops h m = field_later m (at + 32) (i16s s at 16) (omega arith)
-
-  pub reading_all : 16 ≤ i → Read.value zs ≡ field s (at + 32) (i16s s at 16)
+  pub reading_all : i ≡ 16 → Read.value zs ≡ field s (at + 32) (i16s s at 16)
   reading_all h =
-      let e : i ≡ 16 = omega (arith, r.few) in
-      answer_in_lem s (at + 32) (i16s s at 16) (omega (arith, r.inside)) (r.is ∙ rw e (append-nil (i16s s at 16)))
-
--- ---- A read whose value stands beside its answer
-
-module _ {A : Type 0} {said : Read A} {v : A} (none : A) (x : Read A) where
-  pub beside_refused : {n : ℕ} → said ≡ Read.refused n → v ≡ none → Read.refused n ≡ x → (said ≡ x) × (v ≡ value_or none x)
-  beside_refused e f g = (e ∙ g, f ∙ ap (value_or none) g)
-
-  pub beside_value : said ≡ Read.value v → Read.value v ≡ x → (said ≡ x) × (v ≡ value_or none x)
-  beside_value e g = (e ∙ g, ap (value_or none) g)
+      answer_in_lem s (at + 32) (i16s s at 16) (omega (arith, r.inside)) (r.is ∙ rw h (append-nil (i16s s at 16)))
 
 -- ---- The channel
 
 module _ (s : List ℕ) (at : ℕ) where
   -- looping is refused, or the format's number
-  pub channel_short : {A : Type 0} {past : ℕ} {a : A} {n : ℕ} → Missed s past a n → past ≤ at + 4 → Read.refused n ≡ read_channel s at
+  pub channel_short : {A : Type 0} {past : ℕ} {a : A} (r : Result Channel Refusal) (e : Refusal) → IsErrAnd r (λ x. x ≡ e) → Missed s past a (number_of e)
+      → past ≤ at + 4 → says r ≡ read_channel s at
   unfolding read_channel
-  channel_short m h = rw (← field_later m (at + 4) (u16_at s (at + 2)) h)
+  channel_short r e p m h = rw (passed_on r e p, ← field_later m (at + 4) (u16_at s (at + 2)) h)
 
   module _ {n : ℕ} (g : Got s (at + 2 + 2) (u16_at s (at + 2)) n) where
     -- what follows the number
@@ -90,24 +78,23 @@ module _ (s : List ℕ) (at : ℕ) where
     unfolding read_channel
     channel-on = rw (field-inside s (at + 4) (u16_at s (at + 2)) (omega (arith, g.inside)), ← g.is)
 
-    pub channel_unknown : {k : ℕ} → format_of n ≡ Read.refused k → Read.refused k ≡ read_channel s at
-    channel_unknown e = sym (channel-on ∙ rw e)
+    pub channel_unknown : (r : Result Channel Refusal) (e : Refusal) → IsErrAnd r (λ x. x ≡ e) → Read.refused (number_of e) ≡ format_of n → says r ≡ read_channel s at
+    channel_unknown r e p k = rw (passed_on r e p) (sym (channel-on ∙ rw (sym k)))
 
-    -- what the fields after the format come to, the channel comes to
-    pub channel_known : {f : DspFormat} {said : Read Channel} {v : Channel} → format_of n ≡ Read.value f
-        → (said ≡ field s (at + 56) (channel_at s at f)) × (v ≡ value_or no_channel (field s (at + 56) (channel_at s at f)))
-        → (said ≡ read_channel s at) × (v ≡ value_or no_channel (read_channel s at))
-    channel_known {f} e p =
-        let k : read_channel s at ≡ field s (at + 56) (channel_at s at f) = channel-on ∙ rw e in
-        (p.0 ∙ sym k, p.1 ∙ ap (value_or no_channel) (sym k))
+    module _ {f : DspFormat} (known : Read.value f ≡ format_of n) where
+      format_known : read_channel s at ≡ field s (at + 56) (channel_at s at f)
+      format_known = channel-on ∙ rw (sym known)
 
-  -- a refused field after the format
-  pub rest_out : {A : Type 0} {past : ℕ} {a : A} {n : ℕ} (f : DspFormat) → Missed s past a n → past ≤ at + 56 → Read.refused n ≡ field s (at + 56) (channel_at s at f)
-  rest_out f m h = field_later m (at + 56) (channel_at s at f) h
+      -- a refused field after the format
+      pub rest_out : {A : Type 0} {past : ℕ} {a : A} (r : Result Channel Refusal) (e : Refusal) → IsErrAnd r (λ x. x ≡ e) → Missed s past a (number_of e)
+          → past ≤ at + 56 → says r ≡ read_channel s at
+      rest_out r e p m h = handed_on r e p m (at + 56) (channel_at s at f) h ∙ sym format_known
 
-  pub rest-made : (f : DspFormat) {k l e u g : ℕ} {zs : List ℤ} {c : FrameContext} → k ≡ u16_at s at → Got s (at + 4 + 4) (u32_at s (at + 4)) l → Got s (at + 8 + 4) (u32_at s (at + 8)) e
-      → Got s (at + 12 + 4) (u32_at s (at + 12)) u → Got s (at + 16 + 32) (i16s s (at + 16) 16) zs → Got s (at + 48 + 2) (u16_at s (at + 48)) g → Got s (at + 50 + 6) (context_at s (at + 50)) c
-      → ◌≡◌ {A = Read Channel} (Read.value (record { looping = not (eqb k 0); format = f; loop_address = l; end_address = e; current_address = u; coefficients = zs; gain = g; context = c }))
-      (field s (at + 56) (channel_at s at f))
-  unfolding channel_at
-  rest-made f i l e u z g c = answer_in_lem s (at + 56) (channel_at s at f) (omega (arith, c.inside)) (rw (i, l.is, e.is, u.is, z.is, g.is, c.is))
+      pub rest-made : {k l e u g : ℕ} {zs : List ℤ} {c : FrameContext} → Got s (at + 2) (u16_at s at) k → Got s (at + 4 + 4) (u32_at s (at + 4)) l
+          → Got s (at + 8 + 4) (u32_at s (at + 8)) e → Got s (at + 12 + 4) (u32_at s (at + 12)) u → Got s (at + 16 + 32) (i16s s (at + 16) 16) zs
+          → Got s (at + 48 + 2) (u16_at s (at + 48)) g → Got s (at + 50 + 6) (context_at s (at + 50)) c
+          → ◌≡◌ {A = Read Channel} (Read.value (record { looping = not (eqb k 0); format = f; loop_address = l; end_address = e; current_address = u; coefficients = zs; gain = g; context = c }))
+          (read_channel s at)
+      unfolding channel_at
+      rest-made i l e u z g c =
+          answer_in_lem s (at + 56) (channel_at s at f) (omega (arith, c.inside)) (rw (i.is, l.is, e.is, u.is, z.is, g.is, c.is)) ∙ sym format_known

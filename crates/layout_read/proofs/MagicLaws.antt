@@ -1,38 +1,30 @@
 -- The first eight bytes compared with the magic, byte after byte, and what the answer says.
-use Prim.Native.Nat.{ℕ, zero, suc, ◌≤◌, ◌<◌}
+use Prim.Native.Nat.{ℕ, ◌≤◌, ◌<◌}
 use mathlib.Core.Path.{◌≡◌, refl, sym, ◌∙◌}
-use mathlib.Core.Bool.{Bool, true, false}
+use mathlib.Core.Bool.{Bool}
 use mathlib.Core.List.{List, [], ◌∷◌}
-use native.Mathlib.Omega.{arith}
-use borrow.Author.Tests.{eq-eqb, ne_eqb}
+use borrow.Author.Tests.{eq-eqb, ne_eqb, eqb-true, eqb-false}
 use lib.Dec.{eqb}
-use lib.ListN.{length, get_or, take}
-use lib.Seq.{get_or-take, length-take-le}
-use Rattle.layout.specs.Choice.{◌and◌}
+use lib.ListN.{length, take}
+use Rattle.std.specs.List.{starts_with}
+use Rattle.std.specs.Cmp.Lexicographic.{pointwise}
+use Rattle.layout.specs.Choice.{pick}
 use Rattle.layout.specs.Lists.{same}
 use Rattle.layout.specs.Records.{Read, magic, read_magic}
 use Rattle.layout.proofs.FieldLaws.{field-inside, field_past}
+use Rattle.layout.proofs.Cases.{by_cases, both}
 
--- ---- Two lists of numbers, element by element
+-- ---- Two lists of numbers, compared element by element
 
-pub same_true : (xs ys : List ℕ) → length xs ≡ length ys → ((k : ℕ) → k < length ys → get_or xs k 0 ≡ get_or ys k 0) → same xs ys ≡ true
+eqb_turned : (x y : ℕ) → eqb x y ≡ eqb y x
+eqb_turned x y = by_cases (eqb x y) (λ t. t ∙ sym (eq-eqb y x (sym (eqb-true x y t)))) (λ f. f ∙ sym (ne_eqb y x (λ e. eqb-false x y f (sym e))))
+
+pub pointwise_same : (xs ys : List ℕ) → pointwise eqb ys xs ≡ same xs ys
 unfolding same
-same_true [] [] l f = refl
-same_true [] (y ∷ ys) l f = absurd (omega arith)
-same_true (x ∷ xs) [] l f = absurd (omega arith)
-same_true (x ∷ xs) (y ∷ ys) l f = rw (eq-eqb x y (f zero (omega arith))) (same_true xs ys (omega arith) (λ k h. f (suc k) (omega arith)))
-
-and_false : (b c : Bool) → c ≡ false → b and c ≡ false
-and_false true c e = e
-and_false false c e = refl
-
-pub same_false : (xs ys : List ℕ) → length xs ≡ length ys → (k : ℕ) → k < length ys → (get_or xs k 0 ≡ get_or ys k 0 → ⊥) → same xs ys ≡ false
-unfolding same
-same_false [] [] l k h f = absurd (omega arith)
-same_false [] (y ∷ ys) l k h f = refl
-same_false (x ∷ xs) [] l k h f = refl
-same_false (x ∷ xs) (y ∷ ys) l zero h f = rw (ne_eqb x y f)
-same_false (x ∷ xs) (y ∷ ys) l (suc k) h f = and_false (eqb x y) (same xs ys) (same_false xs ys (omega arith) k (omega arith) f)
+pointwise_same [] [] = refl
+pointwise_same [] (y ∷ ys) = refl
+pointwise_same (x ∷ xs) [] = refl
+pointwise_same (x ∷ xs) (y ∷ ys) = rw (pointwise_same xs ys, eqb_turned y x) (both (eqb x y) (same xs ys))
 
 -- ---- The answer that the bytes come to
 
@@ -41,11 +33,7 @@ module _ (s : List ℕ) where
   unfolding read_magic
   magic_short h = rw (field_past s 8 (take 8 s) h)
 
-  module _ (h : 8 ≤ length s) where
-    pub magic_right : ((k : ℕ) → k < 8 → get_or s k 0 ≡ get_or magic k 0) → Read.value magic ≡ read_magic s
-    unfolding read_magic
-    magic_right f = rw (field-inside s 8 (take 8 s) h, same_true (take 8 s) magic (length-take-le 8 s h) (λ k l. get_or-take 8 s k 0 l ∙ f k l))
-
-    pub magic_wrong : (k : ℕ) → k < 8 → (get_or s k 0 ≡ get_or magic k 0 → ⊥) → Read.refused 2 ≡ read_magic s
-    unfolding read_magic
-    magic_wrong k l f = rw (field-inside s 8 (take 8 s) h, same_false (take 8 s) magic (length-take-le 8 s h) k l (λ e. f (sym (get_or-take 8 s k 0 l) ∙ e)))
+  -- the comparison is that of the definition
+  pub magic_compared : {t : Bool} → 8 ≤ length s → t ≡ starts_with eqb s magic → pick t (Read.value magic) (Read.refused 2) ≡ read_magic s
+  unfolding read_magic
+  magic_compared h e = rw (field-inside s 8 (take 8 s) h, e, pointwise_same (take 8 s) magic)

@@ -1,5 +1,5 @@
 -- The loading book (document 01). It is fed the arguments of the calls, and of a lent buffer its length alone; nothing here knows the program's record.
-use Rattle.std.specs.Prelude.{ℕ, suc, ◌+◌, ◌-◌, Bool, true, false, List, [], ◌∷◌, ◌++◌, map, length, drop, get_or, replicate, ltb, leb, eqb}
+use Rattle.std.specs.Prelude.{ℕ, suc, ◌+◌, ◌-◌, Bool, true, false, List, [], ◌∷◌, ◌++◌, map, length, drop, get_or, replicate, ltb, leb, eqb, Option, Some, None}
 use Rattle.layout.specs.Choice.{pick, ◌or◌}
 use Rattle.layout.specs.Lists.{filter, any, sum, first_index}
 use Rattle.layout.specs.Records.{padded_size, first_block_offset, adpcm_samples, data_after}
@@ -7,7 +7,6 @@ use Rattle.layout.specs.Refusals.{block_limit}
 use Rattle.layout.specs.declared.DspFormat.TheVariants.{Adpcm}
 use Rattle.reader.specs.OpeningAndReading.{BlockAnswer, refused, ended, gave}
 use Rattle.reader.specs.CuesReadBack.{CueAnswer}
-use Rattle.reader.specs.declared.LoopStart.{LoopStart}
 use Rattle.reader.specs.declared.HpsReader.{HpsReader}
 use Rattle.writer.specs.Loading.{Side, Push, Call, Answer, answer_by, by_mode, loops, has, insert, cue_refusal, length_of, points, any_loop, block_size, PushState, empty_push}
 use Rattle.writer.specs.Loading.{push_refusal, finish_refusal, no_block, filled, second}
@@ -173,8 +172,8 @@ abbrev pub offsets_of : List Block → List ℕ
 offsets_of bs = map (λ k. k.offset) bs
 
 -- "the loop block's index or none"
-abbrev pub loop_start : Book → LoopStart
-loop_start b = pick (ltb (loop_block b) (length b.blocks)) (LoopStart.Block (loop_block b)) LoopStart.None
+abbrev pub loop_start : Book → Option ℕ
+loop_start b = pick (ltb (loop_block b) (length b.blocks)) (Some (loop_block b)) None
 
 -- "opening, the first block's rate, the channel count, the channels as finish fills them, count and offsets of the blocks (zeros beyond), the loop block's index or none"
 unfoldable pub opening_of : Book → HpsReader

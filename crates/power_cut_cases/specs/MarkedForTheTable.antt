@@ -1,6 +1,6 @@
 -- Marked for the table (document 01): the marked cases, the worked example and each refusal, and empty pushes (document 02, Card 2), computed; one table, one
 -- lemma (proofs/marked_cases).
-use Rattle.std.specs.Prelude.{ℕ, zero, suc, ◌+◌, ◌≡◌, Bool, true, false, take, drop, replicate, ℤ, pos, negsuc}
+use Rattle.std.specs.Prelude.{ℕ, zero, suc, ◌+◌, ◌≡◌, Bool, true, false, take, drop, replicate, ℤ, pos, negsuc, Option, Some, None}
 use mathlib.Core.List.{List, [], ◌∷◌, ◌++◌, map, flat_map}
 use Rattle.std.specs.Int.{w16}
 use Rattle.std.proofs.Common.{of_z}
@@ -11,8 +11,6 @@ use Rattle.layout.specs.declared.DspFormat.TheVariants.{Adpcm, Pcm16, Pcm8}
 use Rattle.layout.specs.declared.Channel.{Channel}
 use Rattle.reader.specs.OpeningAndReading.{Opened, opening, BlockAnswer, block_read, Remaining, data_remaining}
 use Rattle.reader.specs.CuesReadBack.{CueAnswer, cursor, point_of, first_cursor, CueStep, cue_step}
-use Rattle.reader.specs.declared.LoopStart.{LoopStart}
-use Rattle.reader.specs.declared.LoopStart.TheVariants.{None, Block}
 use Rattle.reader.specs.declared.HpsReader.{HpsReader}
 use Rattle.writer.specs.WritesAndCuttingRule.{Write, carried}
 use Rattle.writer.specs.Loading.{Side, Push, Call, Answer}
@@ -60,9 +58,9 @@ cues [] = []
 cues (c ∷ cs) = cue c ++ cues cs
 
 -- The loop start, 512 for none.
-abbrev loop_index : LoopStart → ℕ
+abbrev loop_index : Option ℕ → ℕ
 loop_index None = 512
-loop_index (Block i) = i
+loop_index (Some i) = i
 
 -- A context: predictor and scale, the bits of the last samples.
 abbrev context : FrameContext → List ℕ

@@ -4,7 +4,7 @@ use mathlib.Core.Path.{◌≡◌, ap, sym, ◌∙◌}
 use mathlib.Core.List.{List, ◌++◌}
 use native.Mathlib.Omega.{arith}
 use native.Mathlib.Nat.{min-eq_left, min-eq_right}
-use lib.ListN.{length, take, drop, length-take, length-drop, drop_of_length-le}
+use lib.ListN.{length, take, drop, length-take, length-drop}
 use lib.Seq.{take_all, get_or-take, get_or-drop}
 use lib.Dec.{leb}
 use borrow.Author.Tests.{leb-true, leb-false}
@@ -37,12 +37,3 @@ module _ {A : Type 0} (n : ℕ) (l : List A) {m : ℕ} (e : m ≡ min n (length 
       let h : length l ≤ n = omega (arith, leb-false n (length l) t) in
       let f : m ≡ length l = e ∙ min-eq_right h in
       take_all m l (omega arith) ∙ sym (take_all n l h))
-
-  pub same_drop : drop m l ≡ drop n l
-  same_drop =
-      by_cases (leb n (length l))
-      (λ t. ap (λ (k : ℕ). drop k l) (e ∙ min-eq_left (leb-true n (length l) t)))
-      (λ t.
-      let h : length l ≤ n = omega (arith, leb-false n (length l) t) in
-      let f : m ≡ length l = e ∙ min-eq_right h in
-      drop_of_length-le l {i = m} (omega arith) ∙ sym (drop_of_length-le l {i = n} h))

@@ -1,12 +1,12 @@
 -- The first bytes of a write, and of a list of writes.
-use Prim.Native.Nat.{ℕ, suc, ◌+◌, ◌-◌, ◌<◌, ◌≤◌, min}
+use Prim.Native.Nat.{ℕ, ◌+◌, ◌-◌, ◌<◌, ◌≤◌, min}
 use mathlib.Core.Path.{◌≡◌, refl, ap, sym, ◌∙◌}
 use mathlib.Core.Bool.{true}
 use mathlib.Core.List.{List, [], ◌∷◌}
 use native.Mathlib.Omega.{arith}
 use native.Mathlib.Numerals.{add-one}
-use lib.ListN.{length, take, drop, get_or, set, length-take, length-drop, drop_of_length-le}
-use lib.Seq.{take-suc, length-take-le, drop-cons, drop-drop, get_or-take}
+use lib.ListN.{length, take, drop, get_or, set, length-take, drop_of_length-le}
+use lib.Seq.{take-suc, length-take-le, drop-cons}
 use lib.Dec.{leb}
 use borrow.Author.Tests.{le-leb, lt-leb, leb-true, leb-false}
 use Rattle.layout.specs.Lists.{put}
@@ -16,7 +16,7 @@ use Rattle.layout.proofs.PutLaws.{put-length, put-none, put_one, put_at_in, put_
 use Rattle.writer.specs.WritesAndCuttingRule.{Write, write, writes_in}
 use Rattle.writer.specs.declared.Place.{Place}
 use Rattle.power_cut_moments.specs.Moments.{reached, slot_at, reached_next, next_byte}
-use Rattle.power_cut_moments.proofs.ByteLaws.{same-take, same_drop}
+use Rattle.power_cut_moments.proofs.ByteLaws.{same-take}
 
 -- ---- One write
 
@@ -131,106 +131,34 @@ next_slot s (w ∷ ws) m =
 
 -- ---- A list of writes, one after the other
 
--- Of the first `count` writes of a list, i are passed by; their bytes are the first `at`.
-pub record Walk (places : List Place) (count : ℕ) (bytes : List ℕ) (i at : ℕ) : Type 0 where
-  pub few : i ≤ count
-  pub room : count ≤ length places
-  pub inside : at ≤ length bytes
+-- Past the last place there is no write.
+module _ (s : List ℕ) (places : List Place) (bytes : List ℕ) (i m : ℕ) (h : length places ≤ i) where
+  pub slot_past : slot_at s (writes_in (drop i places) bytes) m ≡ s
+  unfolding slot_at writes_in
+  slot_past = rw (drop_of_length-le places {i = i} h)
 
--- The others.
-abbrev pub others : List Place → (count : ℕ) → (bytes : List ℕ) → (i at : ℕ) → List Write
-others places count bytes i at = writes_in (drop i (take count places)) (drop at bytes)
+  pub next_past : next_byte s (writes_in (drop i places) bytes) m ≡ s
+  unfolding next_byte writes_in
+  next_past = rw (drop_of_length-le places {i = i} h)
 
-walk_none : {places : List Place} {count : ℕ} {bytes : List ℕ} → count ≤ length places → Walk places count bytes 0 0
-walk_none h = record { few = omega arith; room = h; inside = omega arith }
-
-walk_all : {places : List Place} {count : ℕ} {bytes : List ℕ} {i at : ℕ} → Walk places count bytes i at → count ≤ i → others places count bytes i at ≡ []
-unfolding writes_in
-walk_all {places} {count} {i = i} c h = rw (drop_of_length-le (take count places) {i = i} (omega (arith, length-take-le count places c.room)))
-
-module _ {places : List Place} {count : ℕ} {bytes : List ℕ} {i at size : ℕ} (c : Walk places count bytes i at) (d : Place) (l : i < count)
-    (z : size ≡ min (get_or places i d).length (length bytes - at)) where
-  walk_more : Walk places count bytes (i + 1) (at + size)
-  walk_more = record { few = omega arith; room = c.room; inside = omega (arith, z, c.inside) }
-
-  part_length : length (take size (drop at bytes)) ≡ size
-  part_length = length-take-le size (drop at bytes) (omega (arith, z, length-drop at bytes))
-
-  opened : others places count bytes i at ≡ write (get_or places i d).offset (take size (drop at bytes)) ∷ others places count bytes (i + 1) (at + size)
+-- The place that is next, its bytes and those after them.
+module _ (s : List ℕ) (places : List Place) (bytes : List ℕ) (i m : ℕ) (d : Place) {part after : List ℕ} (l : i < length places)
+    (p : part ≡ take (get_or places i d).length bytes) (q : after ≡ drop (get_or places i d).length bytes) where
+  place_next : writes_in (drop i places) bytes ≡ write (get_or places i d).offset part ∷ writes_in (drop (i + 1) places) after
   unfolding writes_in
-  opened =
-      let h : i < length (take count places) = omega (arith, length-take-le count places c.room) in
-      let e : size ≡ min (get_or places i d).length (length (drop at bytes)) = omega (arith, z, length-drop at bytes) in
-      let n : i + 1 ≡ suc i = add-one i in
-      rw (
-        n,
-        drop-cons (take count places) i d h,
-        get_or-take count places i d l,
-        ← same-take (get_or places i d).length (drop at bytes) e,
-        ← same_drop (get_or places i d).length (drop at bytes) e,
-        drop-drop,
-      )
+  place_next = rw (add-one i, drop-cons places i d l, p, q)
 
--- They are carried out, and so many bytes are left of the moment.
-pub record Carried (start : List ℕ) (places : List Place) (count : ℕ) (bytes : List ℕ) (moment : ℕ) (slot : List ℕ) (i at left : ℕ) : Type 0 where
-  pub walk : Walk places count bytes i at
-  pub long : length slot ≡ length start
-  pub is : slot_at start (writes_in (take count places) bytes) moment ≡ slot_at slot (others places count bytes i at) left
+  pub slot_part : m < length part → reached s (write (get_or places i d).offset part) m ≡ slot_at s (writes_in (drop i places) bytes) m
+  unfolding slot_at
+  slot_part h = rw (place_next, lt-leb (length part) m h)
 
-module _ {start : List ℕ} {places : List Place} {count : ℕ} {bytes : List ℕ} {moment : ℕ} where
-  pub carried_none : count ≤ length places → Carried start places count bytes moment start 0 0 moment
-  carried_none h = record { walk = walk_none h; long = refl; is = refl }
+  pub slot_more : length part ≤ m → slot_at (reached s (write (get_or places i d).offset part) (length part)) (writes_in (drop (i + 1) places) after) (m - length part)
+      ≡ slot_at s (writes_in (drop i places) bytes) m
+  slot_more h = rw (place_next) (sym (slot_later s _ _ m (le-leb (length part) m h)))
 
-  module _ {slot : List ℕ} {i at left : ℕ} (c : Carried start places count bytes moment slot i at left) where
-    pub carried-all : count ≤ i → slot ≡ slot_at start (writes_in (take count places) bytes) moment
-    unfolding slot_at
-    carried-all h = sym (c.is ∙ rw (walk_all c.walk h))
+  pub next_part : m < length part → reached_next s (write (get_or places i d).offset part) m ≡ next_byte s (writes_in (drop i places) bytes) m
+  unfolding next_byte
+  next_part h = rw (place_next, lt-leb (length part) m h)
 
-    module _ {size : ℕ} (d : Place) (l : i < count) (z : size ≡ min (get_or places i d).length (length bytes - at)) where
-      next : slot_at start (writes_in (take count places) bytes) moment ≡ slot_at slot (write (get_or places i d).offset (take size (drop at bytes)) ∷ others places count bytes (i + 1) (at + size)) left
-      next = c.is ∙ ap (λ (ws : List Write). slot_at slot ws left) (opened c.walk d l z)
-
-      pub carried-part : {t : List ℕ} (n : ℕ) → n ≡ size → left < size → t ≡ reached slot (write (get_or places i d).offset (take n (drop at bytes))) left
-          → t ≡ slot_at start (writes_in (take count places) bytes) moment
-      unfolding slot_at
-      carried-part n q h e = e ∙ rw q (sym (next ∙ rw (part_length c.walk d l z, lt-leb size left h)))
-
-      pub carried-more : {t : List ℕ} (n : ℕ) → n ≡ size → size ≤ left → t ≡ reached slot (write (get_or places i d).offset (take n (drop at bytes))) size
-          → Carried start places count bytes moment t (i + 1) (at + size) (left - size)
-      unfolding slot_at
-      carried-more n q h r =
-          let w = write (get_or places i d).offset (take size (drop at bytes)) in
-          let e : _ ≡ reached slot w size = rw q at r in
-          record {
-            walk = walk_more c.walk d l z;
-            long = ap length e ∙ reached-length slot w.offset w.bytes size ∙ c.long;
-            is = next ∙ rw (part_length c.walk d l z, le-leb size left h, ← e);
-          }
-
--- They have reached the slot, and so many bytes of the others: the next byte is one of these.
-pub record Passing (slot : List ℕ) (places : List Place) (count : ℕ) (bytes : List ℕ) (moment i at left : ℕ) : Type 0 where
-  pub walk : Walk places count bytes i at
-  pub is : next_byte slot (writes_in (take count places) bytes) moment ≡ next_byte slot (others places count bytes i at) left
-
-module _ {slot : List ℕ} {places : List Place} {count : ℕ} {bytes : List ℕ} {moment : ℕ} where
-  pub passing_none : count ≤ length places → Passing slot places count bytes moment 0 0 moment
-  passing_none h = record { walk = walk_none h; is = refl }
-
-  module _ {i at left : ℕ} (c : Passing slot places count bytes moment i at left) {t : List ℕ} (same : t ≡ slot) where
-    pub passing_all : count ≤ i → t ≡ next_byte slot (writes_in (take count places) bytes) moment
-    unfolding next_byte
-    passing_all h = same ∙ sym (c.is ∙ rw (walk_all c.walk h))
-
-    module _ {size : ℕ} (d : Place) (l : i < count) (z : size ≡ min (get_or places i d).length (length bytes - at)) where
-      after : next_byte slot (writes_in (take count places) bytes) moment
-          ≡ next_byte slot (write (get_or places i d).offset (take size (drop at bytes)) ∷ others places count bytes (i + 1) (at + size)) left
-      after = c.is ∙ ap (λ (ws : List Write). next_byte slot ws left) (opened c.walk d l z)
-
-      pub passing_here : {u : List ℕ} (n : ℕ) → n ≡ size → left < size → u ≡ reached_next t (write (get_or places i d).offset (take n (drop at bytes))) left
-          → u ≡ next_byte slot (writes_in (take count places) bytes) moment
-      unfolding next_byte
-      passing_here n q h e = e ∙ rw (q, same) (sym (after ∙ rw (part_length c.walk d l z, lt-leb size left h)))
-
-      pub passing_more : size ≤ left → (t ≡ slot) × Passing slot places count bytes moment (i + 1) (at + size) (left - size)
-      unfolding next_byte
-      passing_more h = (same, record { walk = walk_more c.walk d l z; is = after ∙ rw (part_length c.walk d l z, le-leb size left h) })
+  pub next_more : length part ≤ m → next_byte s (writes_in (drop (i + 1) places) after) (m - length part) ≡ next_byte s (writes_in (drop i places) bytes) m
+  next_more h = rw (place_next) (sym (next_later s _ _ m (le-leb (length part) m h)))

@@ -1,12 +1,11 @@
 // What a power cut leaves of the writes, moment by moment.
 #![tactic(auto)]
 
-ghost use Rattle.std.specs.Prelude.{◌≡◌, ◌≤◌, take};
-ghost use Rattle.writer.specs.WritesAndCuttingRule.{write, writes_in, most_writes};
+ghost use Rattle.std.specs.Prelude.{◌≡◌, take, drop};
+ghost use Rattle.writer.specs.WritesAndCuttingRule.{write, writes_in};
 ghost use Rattle.power_cut_moments.specs.Moments.{reached, slot_at, reached_next, next_byte, EveryMoment, PowerCutAtMoments};
 
 use layout::fields::inside;
-use layout::least;
 use layout_put::put_bytes;
 use writer::{MOST_WRITES, Place};
 
@@ -25,7 +24,7 @@ pub fn reach(slot: &mut [u8], at: usize, bytes: &[u8], n: usize)
     ensures { slot.new ≡ reached slot.old (write at bytes.now) n }
 {
     if inside(slot.len(), at, bytes.len()) {
-        let m = least(n, bytes.len());
+        let m = n.min(bytes.len());
         put_bytes(slot, at, &bytes[..m]);
     }
 }
@@ -34,43 +33,38 @@ pub fn reach(slot: &mut [u8], at: usize, bytes: &[u8], n: usize)
 fn reach_next(slot: &mut [u8], at: usize, bytes: &[u8], k: usize)
     ensures { slot.new ≡ reached_next slot.old (write at bytes.now) k }
 {
-    if inside(slot.len(), at, bytes.len()) {
-        if k < bytes.len() {
-            slot[at + k] = bytes[k];
-        }
+    if inside(slot.len(), at, bytes.len()) && k < bytes.len() {
+        slot[at + k] = bytes[k];
     }
 }
 
-// The same of as many writes as are there.
-fn carry_first(
-    slot: &mut [u8],
-    places: [Place; MOST_WRITES],
-    count: usize,
-    bytes: &[u8],
-    moment: usize,
-)
-    requires { count ≤ most_writes }
-    ensures { slot.new ≡ slot_at slot.old (writes_in (take count places) bytes.now) moment }
+// So many of the bytes, or as many as there are, and the rest.
+fn parted(bytes: &[u8], length: usize) -> (&[u8], &[u8])
+    ensures part { result.0.now ≡ take length bytes.now }
+    ensures rest { result.1.now ≡ drop length bytes.now }
 {
-    let mut i: usize = 0;
-    let mut at: usize = 0;
+    bytes.split_at_checked(length).unwrap_or((bytes, &[]))
+}
+
+// The slot at a moment of writes whose bytes lie one after the other.
+fn carry_first(slot: &mut [u8], places: &[Place], bytes: &[u8], moment: usize)
+    ensures { slot.new ≡ slot_at slot.old (writes_in places.now bytes.now) moment }
+{
+    let mut rest = bytes;
     let mut left = moment;
-    while i < count {
-        let place = places[i];
-        let size = least(place.length, bytes.len() - at);
-        let end = at + size;
-        if left < size {
-            reach(slot, place.offset, &bytes[at..end], left);
+    for place in places {
+        let (part, after) = parted(rest, place.length);
+        if left < part.len() {
+            reach(slot, place.offset, part, left);
             return;
         }
-        reach(slot, place.offset, &bytes[at..end], size);
-        left -= size;
-        at = end;
-        i += 1;
+        reach(slot, place.offset, part, part.len());
+        left -= part.len();
+        rest = after;
     }
 }
 
-// The slot at a moment of the first writes of a list, whose bytes lie one after the other.
+// The same of the first writes of a list.
 pub fn slot_at(
     slot: &mut [u8],
     places: [Place; MOST_WRITES],
@@ -80,39 +74,28 @@ pub fn slot_at(
 )
     ensures { slot.new ≡ slot_at slot.old (writes_in (take count places) bytes.now) moment }
 {
-    let most = least(count, MOST_WRITES);
-    carry_first(slot, places, most, bytes, moment);
+    let most = count.min(MOST_WRITES);
+    carry_first(slot, &places[..most], bytes, moment);
 }
 
-// One byte more of the first writes of a list.
-fn next_first(
-    slot: &mut [u8],
-    places: [Place; MOST_WRITES],
-    count: usize,
-    bytes: &[u8],
-    moment: usize,
-)
-    requires { count ≤ most_writes }
-    ensures { slot.new ≡ next_byte slot.old (writes_in (take count places) bytes.now) moment }
+// One byte more of writes.
+fn next_first(slot: &mut [u8], places: &[Place], bytes: &[u8], moment: usize)
+    ensures { slot.new ≡ next_byte slot.old (writes_in places.now bytes.now) moment }
 {
-    let mut i: usize = 0;
-    let mut at: usize = 0;
+    let mut rest = bytes;
     let mut left = moment;
-    while i < count {
-        let place = places[i];
-        let size = least(place.length, bytes.len() - at);
-        let end = at + size;
-        if left < size {
-            reach_next(slot, place.offset, &bytes[at..end], left);
+    for place in places {
+        let (part, after) = parted(rest, place.length);
+        if left < part.len() {
+            reach_next(slot, place.offset, part, left);
             return;
         }
-        left -= size;
-        at = end;
-        i += 1;
+        left -= part.len();
+        rest = after;
     }
 }
 
-// One byte more of the writes: a slot at this moment goes on to the next.
+// The same of the first writes of a list: a slot at this moment goes on to the next.
 pub fn next_moment(
     slot: &mut [u8],
     places: [Place; MOST_WRITES],
@@ -122,6 +105,6 @@ pub fn next_moment(
 )
     ensures { slot.new ≡ next_byte slot.old (writes_in (take count places) bytes.now) moment }
 {
-    let most = least(count, MOST_WRITES);
-    next_first(slot, places, most, bytes, moment);
+    let most = count.min(MOST_WRITES);
+    next_first(slot, &places[..most], bytes, moment);
 }

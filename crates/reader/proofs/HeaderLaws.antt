@@ -1,4 +1,4 @@
--- A block header that was read, or is not in the slot.
+-- A block header that is read, or is not in the slot.
 use Prim.Native.Nat.{ℕ, ◌+◌, ◌≤◌}
 use mathlib.Core.Path.{◌≡◌, ap}
 use mathlib.Core.List.{List}
@@ -6,22 +6,9 @@ use lib.ListN.{length, get_or}
 use lib.Dec.{leb}
 use borrow.Author.Tests.{leb-true, leb-false}
 use Rattle.layout.specs.Records.{Read, header_at, read_header, data_after}
-use Rattle.layout.specs.Answers.{refusal_of, header_says}
 use Rattle.layout.specs.declared.BlockHeader.{BlockHeader}
-use Rattle.layout.specs.declared.answers.HeaderRead.{HeaderRead}
 use Rattle.layout.proofs.Cases.{by_cases}
-use Rattle.layout.proofs.FieldLaws.{field-inside, field_past, field_value, header, value_read, short_read, number_read}
-
-module _ (s : List ℕ) (o : ℕ) {q : HeaderRead} (e : header_says q ≡ read_header s o) where
-  pub header-got : {h : BlockHeader} → q ≡ HeaderRead.Value h → read_header s o ≡ Read.value h
-  header-got f = value_read header e f
-
-  pub header_short : {n : ℕ} → q ≡ HeaderRead.Refused n → read_header s o ≡ Read.refused n
-  header_short f = short_read header e f
-
-  -- the same, with the number that is handed on
-  pub header_refused : {n m : ℕ} → q ≡ HeaderRead.Refused n → m ≡ refusal_of (header_says q) → read_header s o ≡ Read.refused m
-  header_refused f g = number_read header e f g
+use Rattle.layout.proofs.FieldLaws.{field-inside, field_past, field_value}
 
 -- it is the one at the offset
 pub header_is : (s : List ℕ) (o : ℕ) {h : BlockHeader} → read_header s o ≡ Read.value h → h ≡ header_at s o

@@ -1,6 +1,7 @@
 -- An opening taken apart, and what holds of every record that it gives.
+use Rattle.std.proofs.Common.{Option}
 use Prim.Native.Nat.{ℕ, zero, suc, ◌+◌, ◌≤◌}
-use mathlib.Core.Path.{◌≡◌, refl, ap, sym, ◌∙◌}
+use mathlib.Core.Path.{◌≡◌, refl}
 use mathlib.Core.Bool.{Bool, true, false}
 use mathlib.Core.List.{List, [], ◌∷◌, ◌++◌}
 use mathlib.Core.Logic.{◌⊎◌, inl, inr, ⊎_elim}
@@ -14,12 +15,8 @@ use Rattle.layout.specs.Refusals.{wrong_count, slot_limit, block_limit}
 use Rattle.layout.specs.declared.Channel.{Channel}
 use Rattle.layout.proofs.Cases.{by_cases}
 use Rattle.reader.proofs.HeaderLaws.{header_cases}
-use Rattle.reader.specs.declared.LoopStart.{LoopStart}
 use Rattle.reader.specs.declared.HpsReader.{HpsReader}
-use Rattle.reader.specs.declared.answers.OpenReply.{OpenReply}
-use Rattle.reader.specs.declared.answers.OpenCall.{OpenCall}
 use Rattle.reader.specs.OpeningAndReading.{Walked, refused, walked, first_at, walk_from, Opened, on_walk, made, opening, Readable}
-use Rattle.reader.specs.ReaderAnswers.{open_call}
 
 -- ---- Taking an opening apart
 
@@ -35,7 +32,7 @@ module _ {r : HpsReader} where
   past_read (Read.refused n) e = not_opened n e
   past_read (Read.value a) e = (a, refl, e)
 
-  past_walk : (w : Walked) {g : List ℕ → LoopStart → Opened} → on_walk w g ≡ Opened.opened r → (os : List ℕ) × (start : LoopStart) × (w ≡ Walked.walked os start) × (g os start ≡ Opened.opened r)
+  past_walk : (w : Walked) {g : List ℕ → Option ℕ → Opened} → on_walk w g ≡ Opened.opened r → (os : List ℕ) × (start : Option ℕ) × (w ≡ Walked.walked os start) × (g os start ≡ Opened.opened r)
   past_walk (refused n) e = not_opened n e
   past_walk (walked os start) e = (os, start, refl, e)
 
@@ -49,7 +46,7 @@ pub record Parts (s : List ℕ) (r : HpsReader) : Type 0 where
   pub left : Channel
   pub right : Channel
   pub offsets : List ℕ
-  pub start : LoopStart
+  pub start : Option ℕ
   pub rate_read : field s 12 (u32_at s 8) ≡ Read.value rate
   pub count_read : field s 16 (u32_at s 12) ≡ Read.value count
   pub right_count : wrong_count count ≡ false
@@ -92,14 +89,14 @@ one_or_two n e =
 
 -- ---- The premise of the reading calls
 
-pub not_walked : {A : Type 0} (n : ℕ) (os : List ℕ) (start : LoopStart) → Walked.refused n ≡ Walked.walked os start → A
+pub not_walked : {A : Type 0} (n : ℕ) (os : List ℕ) (start : Option ℕ) → Walked.refused n ≡ Walked.walked os start → A
 not_walked n os start e = absurd (let z : ◌≡◌ {A = ℕ} 0 1 = cc in omega arith)
 
-walked_few : (m : ℕ) {here os : List ℕ} {l start : LoopStart} → length here ≤ m → Walked.walked here l ≡ Walked.walked os start → length os ≤ m
+walked_few : (m : ℕ) {here os : List ℕ} {l start : Option ℕ} → length here ≤ m → Walked.walked here l ≡ Walked.walked os start → length os ≤ m
 walked_few m {here} {os} h e = let x : here ≡ os = cc in rw (← x) h
 
 -- a walk gives no more blocks than it may read
-walk_few : (n : ℕ) (s seen : List ℕ) (at : ℕ) (os : List ℕ) (start : LoopStart) → walk_from n s seen at ≡ Walked.walked os start → length os ≤ length seen + n
+walk_few : (n : ℕ) (s seen : List ℕ) (at : ℕ) (os : List ℕ) (start : Option ℕ) → walk_from n s seen at ≡ Walked.walked os start → length os ≤ length seen + n
 unfolding walk_from
 walk_few zero s seen at os start e = not_walked 5 os start e
 walk_few (suc n) s seen at os start e =
@@ -119,35 +116,9 @@ walk_few (suc n) s seen at os start e =
     (λ v. walked_few (length seen + suc n) fits (rw v at e2))
     (λ v. omega (arith, walk_few n s here next os start (rw v at e2), long))))
 
-opened_readable : (s : List ℕ) (r : HpsReader) → opening s ≡ Opened.opened r → Readable r
+pub opened_readable : (s : List ℕ) (r : HpsReader) → opening s ≡ Opened.opened r → Readable r
 unfolding made
 opened_readable s r e =
     let p = opened_parts_lem s r e in
     rw (← p.is)
     (record { channels = ⊎_elim (λ h. omega arith) (λ h. omega arith) (one_or_two p.count p.right_count); blocks = walk_few block_limit s [] file_header_size p.offsets p.start p.walk })
-
-readable_of : (o : Opened) → ((r : HpsReader) → o ≡ Opened.opened r → Readable r) → Readable (open_call o).reader
-readable_of (Opened.refused n) f = record { channels = omega arith; blocks = omega arith }
-readable_of (Opened.opened r) f = f r refl
-
--- the answer is that of the definition, so its record is readable
-pub and_readable : (s : List ℕ) (q : OpenCall) → q ≡ open_call (opening s) → (q ≡ open_call (opening s)) × Readable q.reader
-and_readable s q e = (e, rw e (readable_of (opening s) (opened_readable s)))
-
--- ---- What the answer tells
-
-refused_back : (o : Opened) (n : ℕ) → (open_call o).reply ≡ OpenReply.Refused n → o ≡ Opened.refused n
-refused_back (Opened.refused m) n e = let x : m ≡ n = cc in ap Opened.refused x
-refused_back (Opened.opened r) n e = absurd (let z : ◌≡◌ {A = ℕ} 0 1 = cc in omega arith)
-
-opened-back : (o : Opened) → (open_call o).reply ≡ OpenReply.Opened → o ≡ Opened.opened (open_call o).reader
-opened-back (Opened.refused m) e = absurd (let z : ◌≡◌ {A = ℕ} 0 1 = cc in omega arith)
-opened-back (Opened.opened r) e = refl
-
-module _ (s : List ℕ) (q : OpenCall) (e : q ≡ open_call (opening s)) where
-  pub call_refused : (n : ℕ) → q.reply ≡ OpenReply.Refused n → opening s ≡ Opened.refused n
-  call_refused n h = refused_back (opening s) n (sym (ap (λ (x : OpenCall). x.reply) e) ∙ h)
-
-  pub call_opened : q.reply ≡ OpenReply.Opened → opening s ≡ Opened.opened q.reader
-  call_opened h =
-      opened-back (opening s) (sym (ap (λ (x : OpenCall). x.reply) e) ∙ h) ∙ ap (λ (x : OpenCall). Opened.opened x.reader) (sym e)

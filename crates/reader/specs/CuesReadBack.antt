@@ -1,12 +1,10 @@
 -- Cues read back (document 01): the cue call and its cursor.
-use Rattle.std.specs.Prelude.{ℕ, zero, suc, ◌+◌, ◌*◌, ◌%◌, ◌^◌, Bool, true, false, List, [], ◌∷◌, ltb, eqb}
+use Rattle.std.specs.Prelude.{ℕ, zero, suc, ◌+◌, ◌*◌, ◌%◌, ◌^◌, Bool, true, false, List, [], ◌∷◌, ltb, eqb, Option, Some, None}
 use Rattle.std.specs.Int.{w64}
 use Rattle.std.proofs.Common.{of_z}
 use Rattle.layout.specs.Choice.{pick, ◌and◌}
 use Rattle.layout.specs.Records.{on, read_header, cue_at, length_in, num_samples, block_header_size, cue_point_size}
 use Rattle.layout.specs.declared.CuePoint.{CuePoint}
-use Rattle.reader.specs.declared.LoopStart.{LoopStart}
-use Rattle.reader.specs.declared.LoopStart.TheVariants.{None, Block}
 use Rattle.reader.specs.declared.HpsReader.{HpsReader}
 use Rattle.reader.specs.declared.CueIterator.{CueIterator}
 use Rattle.reader.specs.OpeningAndReading.{channel_in, offsets_from}
@@ -23,9 +21,9 @@ abbrev pub cursor : (block place base : ℕ) → Bool → CueIterator
 cursor i j b d = record { block = i; place = j; base = b; due = d }
 
 -- Is there a loop?
-abbrev pub looped : LoopStart → Bool
+abbrev pub looped : Option ℕ → Bool
 looped None = false
-looped (Block j) = true
+looped (Some j) = true
 
 -- "the first cursor" on a record: its Loop is due if it has one
 abbrev pub first_cursor : HpsReader → CueIterator
@@ -41,9 +39,9 @@ abbrev pub stepped : CueAnswer → CueIterator → CueStep
 stepped a c = record { answer = a; after = c }
 
 -- "on the loop block"
-abbrev pub loop_here : LoopStart → ℕ → Bool
+abbrev pub loop_here : Option ℕ → ℕ → Bool
 loop_here None i = false
-loop_here (Block j) i = eqb i j
+loop_here (Some j) i = eqb i j
 
 -- "each cue as Point, its id as name, at base + index sign-extended, the sum taken modulo 2^64"
 abbrev pub point_of : (base : ℕ) → CuePoint → CueAnswer

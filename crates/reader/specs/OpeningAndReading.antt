@@ -1,5 +1,5 @@
 -- Opening and reading (document 01): opening, block read, addresses remaining.
-use Rattle.std.specs.Prelude.{ℕ, zero, suc, ◌+◌, ◌-◌, ◌≤◌, List, [], ◌∷◌, ◌++◌, length, take, drop, get_or, replicate, ltb, leb, eqb, ℤ}
+use Rattle.std.specs.Prelude.{ℕ, zero, suc, ◌+◌, ◌-◌, ◌≤◌, List, [], ◌∷◌, ◌++◌, length, take, drop, get_or, replicate, ltb, leb, eqb, ℤ, Option, Some, None}
 use Rattle.layout.specs.Choice.{pick}
 use Rattle.layout.specs.Lists.{first_index}
 use Rattle.layout.specs.Records.{u32_at, Read, field, on, padded_size, read_channel, no_channel, read_magic, first_block_offset, end_block_offset, read_header, length_in, address_to_byte_up, data_after}
@@ -8,7 +8,6 @@ use Rattle.layout.specs.declared.FrameContext.{FrameContext}
 use Rattle.layout.specs.declared.DspFormat.{DspFormat}
 use Rattle.layout.specs.declared.Channel.{Channel}
 use Rattle.layout.specs.declared.BlockHeader.{BlockHeader}
-use Rattle.reader.specs.declared.LoopStart.{LoopStart}
 use Rattle.reader.specs.declared.HpsReader.{HpsReader}
 
 -- ---- The walk
@@ -16,7 +15,7 @@ use Rattle.reader.specs.declared.HpsReader.{HpsReader}
 -- What the walk gives: a refusal, or the offsets and the loop start.
 pub data Walked : Type 0 where
   refused : ℕ → Walked
-  walked : (offsets : List ℕ) → LoopStart → Walked
+  walked : (offsets : List ℕ) → Option ℕ → Walked
 
 -- "an offset already walked": its index, the length where there is none
 abbrev pub first_at : ℕ → List ℕ → ℕ
@@ -28,9 +27,9 @@ unfoldable pub walk_from : (n : ℕ) → List ℕ → (seen : List ℕ) → (at 
 walk_from zero s seen at = refused 5
 walk_from (suc n) s seen at =
     on (read_header s at) refused (λ h.
-    pick (eqb h.next_offset end_block_offset) (walked (seen ++ (at ∷ [])) LoopStart.None)
+    pick (eqb h.next_offset end_block_offset) (walked (seen ++ (at ∷ [])) None)
     (pick (ltb (first_at h.next_offset (seen ++ (at ∷ []))) (length (seen ++ (at ∷ []))))
-    (walked (seen ++ (at ∷ [])) (LoopStart.Block (first_at h.next_offset (seen ++ (at ∷ [])))))
+    (walked (seen ++ (at ∷ [])) (Some (first_at h.next_offset (seen ++ (at ∷ [])))))
     (walk_from n s (seen ++ (at ∷ [])) h.next_offset)))
 
 -- ---- Opening
@@ -41,12 +40,12 @@ pub data Opened : Type 0 where
   opened : HpsReader → Opened
 
 -- What follows the walk.
-abbrev pub on_walk : Walked → (List ℕ → LoopStart → Opened) → Opened
+abbrev pub on_walk : Walked → (List ℕ → Option ℕ → Opened) → Opened
 on_walk (refused n) f = Opened.refused n
 on_walk (walked os start) f = f os start
 
 -- "holds rate, channel count, channels in use (zeros beyond), block count, block offsets (zeros beyond), loop start or none"
-unfoldable pub made : (rate count : ℕ) → Channel → Channel → List ℕ → LoopStart → HpsReader
+unfoldable pub made : (rate count : ℕ) → Channel → Channel → List ℕ → Option ℕ → HpsReader
 made rate count l r os start =
     record { rate = rate; count = count; channels = l ∷ pick (eqb count 2) r no_channel ∷ []; blocks = length os; offsets = os ++ replicate (block_limit - length os) 0; loop_start = start }
 

@@ -1,6 +1,6 @@
 -- Where a block's data lies.
 use Prim.Native.Nat.{ℕ, ◌+◌, ◌*◌, ◌≤◌, ◌<◌}
-use mathlib.Core.Path.{◌≡◌, refl}
+use mathlib.Core.Path.{◌≡◌}
 use mathlib.Core.List.{List}
 use native.Mathlib.Omega.{arith}
 use borrow.Author.Tests.{eq-eqb, ne_eqb}
@@ -11,11 +11,9 @@ use Rattle.layout.specs.declared.DspFormat.{DspFormat}
 use Rattle.layout.specs.declared.DspFormat.TheVariants.{Adpcm, Pcm16, Pcm8}
 use Rattle.layout.specs.declared.BlockHeader.{BlockHeader}
 use Rattle.layout.proofs.SizeLaws.{saturated-fits}
-use Rattle.layout.proofs.FieldLaws.{Answers}
 use Rattle.reader_block.specs.declared.data_places.BlockData.{BlockData}
-use Rattle.reader_block.specs.declared.data_places.DataRead.{DataRead}
 use Rattle.reader.specs.OpeningAndReading.{data_start}
-use Rattle.reader_block.specs.DataPlaces.{data_says, data_placed, data_found}
+use Rattle.reader_block.specs.DataPlaces.{data_placed, data_found}
 use Rattle.reader.proofs.HeaderLaws.{header-inside}
 use Rattle.layout.proofs.Lengths.{padded_size_above}
 
@@ -37,12 +35,9 @@ aligned_bytes f n h = saturated-fits (padded_size (address_to_byte_up f n)) (ome
 pub aligned_small : (f : DspFormat) (n : ℕ) → n ≤ 4294967296 → padded_size (address_to_byte_up f n) ≤ 8589934623
 aligned_small f n h = omega (arith, bytes_small f n h, padded_size_near (address_to_byte_up f n))
 
-pub found : Answers data_says DataRead.Value DataRead.Refused
-found = record { value = λ d. refl; refused = λ n. refl }
-
-pub found_refused : (s : List ℕ) (o ch : ℕ) (f : DspFormat) {n : ℕ} → read_header s o ≡ Read.refused n → Read.refused n ≡ data_found s o ch f
+pub found_refused : (s : List ℕ) (o ch : ℕ) (f : DspFormat) {n : ℕ} → Read.refused n ≡ read_header s o → Read.refused n ≡ data_found s o ch f
 unfolding data_found
-found_refused s o ch f e = rw e
+found_refused s o ch f e = rw (← e)
 
 module _ (s : List ℕ) (o : ℕ) (h : BlockHeader) (e : read_header s o ≡ Read.value h) (long : length s < 18446744073709551616) where
   pub cues-small : 8 * h.cues ≤ length s

@@ -1,22 +1,23 @@
--- What block read returns: the struct or enum for each answer of the definitions, with zeros where nothing is given.
-use Rattle.std.specs.Prelude.{ℕ, ◌+◌, List, [], length, replicate, pos}
-use Rattle.layout.specs.Records.{zero_context}
-use Rattle.layout.specs.declared.DspFormat.{DspFormat}
-use Rattle.reader_block.specs.declared.BlockReply.{BlockReply}
-use Rattle.reader_block.specs.declared.BlockCall.{BlockCall}
+-- What block read returns, of each answer of the definition.
+use Rattle.std.specs.Prelude.{ℕ, ◌+◌, List, [], length, Option, Some, None}
+use Rattle.layout.specs.Records.{Read}
+use Rattle.reader_block.specs.declared.Block.{Block}
 use Rattle.reader.specs.OpeningAndReading.{BlockAnswer}
 
-abbrev pub no_block_read : BlockReply → (position : ℕ) → BlockCall
-no_block_read q i =
-    record { reply = q; rate = 0; format = DspFormat.Adpcm; coefficients = replicate 16 (pos 0); gain = 0; length = 0; context = zero_context; start = 0; end = 0; position = i }
+-- The refusal's number, no block at the end, or the block, whose data reaches from start to end.
+abbrev pub block_answer : BlockAnswer → Read (Option Block)
+block_answer (BlockAnswer.refused n) = Read.refused n
+block_answer (BlockAnswer.refused_at n j) = Read.refused n
+block_answer BlockAnswer.ended = Read.value None
+block_answer (BlockAnswer.gave rate f cs gain len c start bytes j) =
+    Read.value (Some (record { rate = rate; format = f; coefficients = cs; gain = gain; length = len; context = c; start = start; end = start + length bytes }))
 
--- "block read's 1 comes with the moved position"; 6 and the end leave it
-abbrev pub block_call : (position : ℕ) → BlockAnswer → BlockCall
-block_call i (BlockAnswer.refused n) = no_block_read (BlockReply.Refused n) i
-block_call i (BlockAnswer.refused_at n j) = no_block_read (BlockReply.Refused n) j
-block_call i BlockAnswer.ended = no_block_read BlockReply.End i
-block_call i (BlockAnswer.gave rate f cs gain len c start bytes j) =
-    record { reply = BlockReply.Block; rate = rate; format = f; coefficients = cs; gain = gain; length = len; context = c; start = start; end = start + length bytes; position = j }
+-- The position after a read at this one: "block read's 1 comes with the moved position"; 6 and the end leave it
+abbrev pub block_position : (position : ℕ) → BlockAnswer → ℕ
+block_position i (BlockAnswer.refused n) = i
+block_position i (BlockAnswer.refused_at n j) = j
+block_position i BlockAnswer.ended = i
+block_position i (BlockAnswer.gave rate f cs gain len c start bytes j) = j
 
 -- "the data as a part of the slot itself"
 abbrev pub block_data : BlockAnswer → List ℕ

@@ -1,17 +1,11 @@
--- Where the data of a block lies, and what the enum for it says.
+-- Where the data of a block lies.
 use Rattle.std.specs.Prelude.{ℕ, ◌+◌, List, length, leb}
 use Rattle.layout.specs.Choice.{pick}
 use Rattle.layout.specs.Records.{Read, on, read_header, length_in, address_to_byte_up}
 use Rattle.layout.specs.declared.DspFormat.{DspFormat}
 use Rattle.layout.specs.declared.FrameContext.{FrameContext}
 use Rattle.reader_block.specs.declared.data_places.BlockData.{BlockData}
-use Rattle.reader_block.specs.declared.data_places.DataRead.{DataRead}
 use Rattle.reader.specs.OpeningAndReading.{context_in, data_start}
-
--- What the enum says, from its cases.
-abbrev pub data_says : DataRead → Read BlockData
-data_says (DataRead.Value d) = Read.value d
-data_says (DataRead.Refused n) = Read.refused n
 
 -- Where the data of a block lies, in a slot of this length; "1 if .. data leaves the slot".
 abbrev pub data_placed : (slot start bytes data_length : ℕ) → FrameContext → Read BlockData

@@ -1,28 +1,21 @@
 // Block read (document 01, "Opening and reading").
 #![tactic(auto)]
 
-ghost use Rattle.std.specs.Prelude.{◌≡◌, get_or};
+ghost use Rattle.std.specs.Prelude.{◌≡◌, ◌<◌, get_or};
 ghost use Rattle.layout.specs.Records.{no_channel};
+ghost use Rattle.layout.specs.Answers.{says};
 ghost use Rattle.reader.specs.OpeningAndReading.{Readable, block_read};
-ghost use Rattle.reader_block.specs.BlockAnswers.{no_block_read, block_call, block_data, block_start, bytes_on};
+ghost use Rattle.reader_block.specs.BlockAnswers.{block_answer, block_position, block_data, block_start, bytes_on};
 
-use crate::data_places::{DataRead, find_data};
+use crate::data_places::find_data;
+use layout::refusal::Refusal;
 use layout::{Channel, DspFormat, FrameContext, no_channel};
 use reader::HpsReader;
 
 mod data_places; // data_places.rt: where a block's data lies
 
 #[derive(Clone, Copy)]
-pub enum BlockReply {
-    Refused(u32),
-    End,
-    Block,
-}
-
-// A block read's answer, zeros where no block is given.
-#[derive(Clone, Copy)]
-pub struct BlockCall {
-    pub reply: BlockReply,
+pub struct Block {
     pub rate: u32,
     pub format: DspFormat,
     pub coefficients: [i16; 16],
@@ -32,6 +25,12 @@ pub struct BlockCall {
     // The data is the slot from start to end.
     pub start: usize,
     pub end: usize,
+}
+
+#[derive(Clone, Copy)]
+pub struct BlockCall {
+    // The block, or none past the last.
+    pub answer: Result<Option<Block>, Refusal>,
     // The position after the call.
     pub position: usize,
 }
@@ -47,58 +46,53 @@ pub fn channel_of(channels: [Channel; 2], channel: usize) -> Channel
     }
 }
 
-fn no_block(reply: BlockReply, position: usize) -> BlockCall
-    ensures { result ≡ no_block_read reply position }
+// The block at the position of one, for a channel in use.
+fn block_there(
+    s: &[u8],
+    r: HpsReader,
+    channel: usize,
+    position: usize,
+) -> Result<Option<Block>, Refusal>
+    requires readable { Readable r }
+    requires in_use { channel < r.count }
+    requires there { position < r.blocks }
+    ensures { says result ≡ block_answer (block_read s.now r channel position) }
 {
-    BlockCall {
-        reply,
-        rate: 0,
-        format: DspFormat::Adpcm,
-        coefficients: [0i16; 16],
-        gain: 0,
-        length: 0,
-        context: FrameContext {
-            predictor_and_scale: 0,
-            last: 0,
-            oldest: 0,
-        },
-        start: 0,
-        end: 0,
-        position,
-    }
+    let c = channel_of(r.channels, channel);
+    let found = find_data(s, r.offsets[position], channel, c.format)?;
+    let coefficients = c.coefficients;
+    Ok(Some(Block {
+        rate: r.rate,
+        format: c.format,
+        coefficients,
+        gain: c.gain,
+        length: found.length,
+        context: found.context,
+        start: found.start,
+        end: found.end,
+    }))
 }
 
 // The block at a position, for a channel; the data itself is what block_data returns.
 pub fn read_block(s: &[u8], r: HpsReader, channel: usize, position: usize) -> BlockCall
     requires { Readable r }
-    ensures { result ≡ block_call position (block_read s.now r channel position) }
+    ensures answer { says result.answer ≡ block_answer (block_read s.now r channel position) }
+    ensures position_after { result.position ≡ block_position position (block_read s.now r channel position) }
 {
     if r.count <= channel {
-        return no_block(BlockReply::Refused(6), position);
+        return BlockCall {
+            answer: Err(Refusal::NoSuchChannel),
+            position,
+        };
     }
     if r.blocks <= position {
-        return no_block(BlockReply::End, position);
+        return BlockCall {
+            answer: Ok(None),
+            position,
+        };
     }
-    let offset = r.offsets[position];
-    let channels = r.channels;
-    let c = channel_of(channels, channel);
-    let format = c.format;
-    let read = find_data(s, offset, channel, format);
-    let DataRead::Value(found) = read else {
-        return no_block(BlockReply::Refused(read.number()), position + 1);
-    };
-    let coefficients = c.coefficients;
-    let context = found.context;
     BlockCall {
-        reply: BlockReply::Block,
-        rate: r.rate,
-        format,
-        coefficients,
-        gain: c.gain,
-        length: found.length,
-        context,
-        start: found.start,
-        end: found.end,
+        answer: block_there(s, r, channel, position),
         position: position + 1,
     }
 }
@@ -115,14 +109,9 @@ pub fn block_data<'a>(s: &'a [u8], r: HpsReader, channel: usize, position: usize
     if r.blocks <= position {
         return &s[..0];
     }
-    let offset = r.offsets[position];
-    let channels = r.channels;
-    let side = channel_of(channels, channel);
-    let format = side.format;
-    let DataRead::Value(found) = find_data(s, offset, channel, format) else {
+    let side = channel_of(r.channels, channel);
+    let Ok(found) = find_data(s, r.offsets[position], channel, side.format) else {
         return &s[..0];
     };
-    let start = found.start;
-    let end = found.end;
-    &s[start..end]
+    &s[found.start..found.end]
 }

@@ -2,14 +2,16 @@
 #![tactic(auto)]
 
 ghost use Rattle.std.specs.Prelude.{◌≡◌};
+ghost use Rattle.layout.specs.Answers.{says};
 ghost use Rattle.reader.specs.OpeningAndReading.{Readable, block_read, data_remaining};
-ghost use Rattle.reader_block.specs.BlockAnswers.{block_call, block_data, block_start, bytes_on};
-ghost use Rattle.reader_remaining.specs.RemainingAnswers.{remaining_reply};
+ghost use Rattle.reader_block.specs.BlockAnswers.{block_answer, block_position, block_data, block_start, bytes_on};
+ghost use Rattle.reader_remaining.specs.RemainingAnswers.{remaining_says};
 ghost use Rattle.reader_channel.specs.ChannelReading.{position_after};
 
+use layout::refusal::Refusal;
 use reader::HpsReader;
 use reader_block::{BlockCall, block_data, read_block};
-use reader_remaining::{RemainingReply, data_remaining};
+use reader_remaining::data_remaining;
 
 #[derive(Clone, Copy)]
 pub struct ChannelReader<'a> {
@@ -17,27 +19,50 @@ pub struct ChannelReader<'a> {
     pub position: usize,
 }
 
-pub fn new<'a>(slot: &'a [u8], position: usize) -> ChannelReader<'a>
-    ensures { (result.slot ≡ slot.entry) × (result.position ≡ position) }
-{
-    ChannelReader { slot, position }
-}
+impl<'a> ChannelReader<'a> {
+    pub fn new(slot: &'a [u8], position: usize) -> ChannelReader<'a>
+        ensures { (result.slot ≡ slot.entry) × (result.position ≡ position) }
+    {
+        ChannelReader { slot, position }
+    }
 
-// The block at the position; the answer has the position to go on from.
-pub fn read<'a>(c: ChannelReader<'a>, r: HpsReader, channel: usize) -> BlockCall
-    requires { Readable r }
-    ensures { result ≡ block_call c.entry.position (block_read c.entry.slot.now r channel c.entry.position) }
-{
-    read_block(c.slot, r, channel, c.position)
-}
+    // The block at the position; the answer has the position to go on from.
+    pub fn read(self, r: HpsReader, channel: usize) -> BlockCall
+        requires { Readable r }
+        ensures answer { says result.answer ≡ block_answer (block_read self.entry.slot.now r channel self.entry.position) }
+        ensures position_after { result.position ≡ position_after self.entry.slot.now r channel self.entry.position }
+    {
+        read_block(self.slot, r, channel, self.position)
+    }
 
-// Its data, a part of the slot itself, and where it lies.
-pub fn data<'a>(c: ChannelReader<'a>, r: HpsReader, channel: usize) -> &'a [u8]
-    requires { Readable r }
-    ensures { (result.now ≡ block_data (block_read c.entry.slot.now r channel c.entry.position))
-        × (result.ref_ptr ≡ bytes_on c.entry.slot.ref_ptr (block_start (block_read c.entry.slot.now r channel c.entry.position))) }
-{
-    block_data(c.slot, r, channel, c.position)
+    // Its data, a part of the slot itself, and where it lies.
+    pub fn data(self, r: HpsReader, channel: usize) -> &'a [u8]
+        requires { Readable r }
+        ensures { (result.now ≡ block_data (block_read self.entry.slot.now r channel self.entry.position))
+            × (result.ref_ptr ≡ bytes_on self.entry.slot.ref_ptr (block_start (block_read self.entry.slot.now r channel self.entry.position))) }
+    {
+        block_data(self.slot, r, channel, self.position)
+    }
+
+    // The reader moved on: past the block at its position, with 1 too; at the end and with 6 it stays.
+    pub fn moved(self, r: HpsReader, channel: usize) -> ChannelReader<'a>
+        requires { Readable r }
+        ensures { (result.slot ≡ self.entry.slot) × (result.position ≡ position_after self.entry.slot.now r channel self.entry.position) }
+    {
+        let position = position_after(self.slot, r, channel, self.position);
+        ChannelReader {
+            slot: self.slot,
+            position,
+        }
+    }
+
+    // The addresses from the position on.
+    pub fn remaining(self, r: HpsReader) -> Result<u64, Refusal>
+        requires { Readable r }
+        ensures { remaining_says result ≡ data_remaining self.entry.slot.now r self.entry.position }
+    {
+        data_remaining(self.slot, r, self.position)
+    }
 }
 
 // Where the position stands after the block read at it.
@@ -48,39 +73,22 @@ fn position_after(slot: &[u8], r: HpsReader, channel: usize, position: usize) ->
     read_block(slot, r, channel, position).position
 }
 
-// The reader moved on: past the block at its position, with 1 too; at the end and with 6 it stays.
-pub fn moved<'a>(c: ChannelReader<'a>, r: HpsReader, channel: usize) -> ChannelReader<'a>
-    requires { Readable r }
-    ensures { (result.slot ≡ c.entry.slot) × (result.position ≡ position_after c.entry.slot.now r channel c.entry.position) }
-{
-    let position = position_after(c.slot, r, channel, c.position);
-    ChannelReader {
-        slot: c.slot,
-        position,
-    }
-}
-
-// The addresses from the position on.
-pub fn remaining<'a>(c: ChannelReader<'a>, r: HpsReader) -> RemainingReply
-    requires { Readable r }
-    ensures { result ≡ remaining_reply (data_remaining c.entry.slot.now r c.entry.position) }
-{
-    data_remaining(c.slot, r, c.position)
-}
-
 // The block at a position, read by a reader that is made there.
 pub fn read_at(slot: &[u8], r: HpsReader, channel: usize, position: usize) -> BlockCall
     requires { Readable r }
-    ensures { result ≡ block_call position (block_read slot.now r channel position) }
+    ensures answer { says result.answer ≡ block_answer (block_read slot.now r channel position) }
+    ensures position_after { result.position ≡ position_after slot.now r channel position }
 {
-    read(new(slot, position), r, channel)
+    ChannelReader::new(slot, position).read(r, channel)
 }
 
 // What a reader that is made at a position reads when it has moved on.
 pub fn read_next(slot: &[u8], r: HpsReader, channel: usize, position: usize) -> BlockCall
     requires { Readable r }
-    ensures { result ≡ block_call (position_after slot.now r channel position)
-        (block_read slot.now r channel (position_after slot.now r channel position)) }
+    ensures answer { says result.answer ≡ block_answer (block_read slot.now r channel (position_after slot.now r channel position)) }
+    ensures position_after { result.position ≡ position_after slot.now r channel (position_after slot.now r channel position) }
 {
-    read(moved(new(slot, position), r, channel), r, channel)
+    ChannelReader::new(slot, position)
+        .moved(r, channel)
+        .read(r, channel)
 }

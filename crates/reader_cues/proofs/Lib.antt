@@ -1,2 +1,1 @@
-pub mod SignLaws
 pub mod NextCueLaws

@@ -1,4 +1,5 @@
 -- What holds of the record of every accepted opening.
+use Rattle.std.proofs.Common.{Option}
 use Prim.Native.Nat.{ℕ, ◌+◌, ◌-◌, ◌≤◌, ◌<◌}
 use mathlib.Core.Path.{◌≡◌, sym, ap, ◌∙◌}
 use mathlib.Core.Bool.{Bool, true, false}
@@ -12,7 +13,6 @@ use Rattle.layout.specs.Records.{first_block_offset}
 use Rattle.layout.specs.Refusals.{wrong_count, block_limit}
 use Rattle.layout.specs.declared.Channel.{Channel}
 use Rattle.layout.proofs.ListLaws.{all_drop, all-at}
-use Rattle.reader.specs.declared.LoopStart.{LoopStart}
 use Rattle.reader.specs.declared.HpsReader.{HpsReader}
 use Rattle.reader.specs.OpeningAndReading.{Walked, walk_from, made, offset_in, offsets_from, data_remaining}
 use Rattle.reader.specs.CuesReadBack.{looped, first_cursor}
@@ -25,7 +25,7 @@ at_most_one : (d : Bool) → pick d 1 0 ≤ 1
 at_most_one true = omega arith
 at_most_one false = omega arith
 
-module _ (s : List ℕ) (rate count : ℕ) (l x : Channel) (os : List ℕ) (start : LoopStart) (c : wrong_count count ≡ false) (w : walk_from block_limit s [] first_block_offset ≡ Walked.walked os start) where
+module _ (s : List ℕ) (rate count : ℕ) (l x : Channel) (os : List ℕ) (start : Option ℕ) (c : wrong_count count ≡ false) (w : walk_from block_limit s [] first_block_offset ≡ Walked.walked os start) where
   abbrev r : HpsReader
   r = made rate count l x os start
 

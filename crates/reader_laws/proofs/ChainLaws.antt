@@ -1,4 +1,5 @@
 -- What a walk that ends has found: blocks whose headers lie in the slot, at different offsets, the loop start among them.
+use Rattle.std.proofs.Common.{Option, Some, None}
 use Prim.Native.Nat.{ℕ, zero, suc, ◌+◌, ◌≤◌, ◌<◌}
 use mathlib.Core.Path.{◌≡◌, refl, sym, ap, ◌∙◌}
 use mathlib.Core.List.{List, [], ◌∷◌, ◌++◌}
@@ -13,7 +14,6 @@ use Rattle.layout.specs.Records.{Read, read_header}
 use Rattle.layout.specs.declared.BlockHeader.{BlockHeader}
 use Rattle.layout.proofs.Cases.{by_cases}
 use Rattle.layout.proofs.ListLaws.{all_snoc}
-use Rattle.reader.specs.declared.LoopStart.{LoopStart}
 use Rattle.reader.specs.OpeningAndReading.{first_at, Walked, walk_from}
 use Rattle.reader.proofs.HeaderLaws.{header_cases}
 use Rattle.reader.proofs.OpenedLaws.{not_walked}
@@ -52,21 +52,21 @@ abbrev pub InSlot : List ℕ → ℕ → Type 0
 InSlot s o = (h : BlockHeader) × (read_header s o ≡ Read.value h)
 
 -- what the walk from an offset on has found, with n blocks left to read
-pub record Found (s : List ℕ) (n : ℕ) (seen : List ℕ) (at : ℕ) (os : List ℕ) (start : LoopStart) : Type 0 where
+pub record Found (s : List ℕ) (n : ℕ) (seen : List ℕ) (at : ℕ) (os : List ℕ) (start : Option ℕ) : Type 0 where
   pub read : All (InSlot s) os
   pub different : Different os
   pub some : 1 ≤ length os
   pub few : length os ≤ length seen + n
   pub first : get_or os 0 0 ≡ get_or (seen ++ (at ∷ [])) 0 0
-  pub loop : (i : ℕ) → start ≡ LoopStart.Block i → i < length os
+  pub loop : (i : ℕ) → start ≡ Some i → i < length os
 
-same_walked : {os xs : List ℕ} {a b : LoopStart} → Walked.walked os a ≡ Walked.walked xs b → (os ≡ xs) × (a ≡ b)
+same_walked : {os xs : List ℕ} {a b : Option ℕ} → Walked.walked os a ≡ Walked.walked xs b → (os ≡ xs) × (a ≡ b)
 same_walked e = (cc, cc)
 
-no_block : (i : ℕ) → LoopStart.None ≡ LoopStart.Block i → ⊥
+no_block : (i : ℕ) → None ≡ Some i → ⊥
 no_block i e = let z : ◌≡◌ {A = ℕ} 0 1 = cc in omega arith
 
-same_block : (i j : ℕ) → LoopStart.Block i ≡ LoopStart.Block j → j ≡ i
+same_block : (i j : ℕ) → Some i ≡ Some j → j ≡ i
 same_block i j e = cc
 
 module _ (n : ℕ) (s seen : List ℕ) (at : ℕ) where
@@ -74,8 +74,8 @@ module _ (n : ℕ) (s seen : List ℕ) (at : ℕ) where
   snoc_length = length-append seen (at ∷ [])
 
   -- the walk ends at this block
-  ended_found : InSlot s at → All (InSlot s) seen → Different seen → ((i : ℕ) → i < length seen → get_or seen i 0 ≡ at → ⊥) → (os : List ℕ) (start : LoopStart)
-      → seen ++ (at ∷ []) ≡ os → ((i : ℕ) → start ≡ LoopStart.Block i → i < length os) → Found s (suc n) seen at os start
+  ended_found : InSlot s at → All (InSlot s) seen → Different seen → ((i : ℕ) → i < length seen → get_or seen i 0 ≡ at → ⊥) → (os : List ℕ) (start : Option ℕ)
+      → seen ++ (at ∷ []) ≡ os → ((i : ℕ) → start ≡ Some i → i < length os) → Found s (suc n) seen at os start
   ended_found q a d f os start e l =
       rw (← e) (record {
         read = all_snoc a q;
@@ -87,7 +87,7 @@ module _ (n : ℕ) (s seen : List ℕ) (at : ℕ) where
       })
 
   -- it goes on to another
-  on_found : (next : ℕ) (os : List ℕ) (start : LoopStart) → Found s n (seen ++ (at ∷ [])) next os start → Found s (suc n) seen at os start
+  on_found : (next : ℕ) (os : List ℕ) (start : Option ℕ) → Found s n (seen ++ (at ∷ [])) next os start → Found s (suc n) seen at os start
   on_found next os start w =
       record {
         read = w.read;
@@ -98,7 +98,7 @@ module _ (n : ℕ) (s seen : List ℕ) (at : ℕ) where
         loop = w.loop;
       }
 
-pub walk_found : (n : ℕ) (s seen : List ℕ) (at : ℕ) (os : List ℕ) (start : LoopStart) → All (InSlot s) seen → Different seen → ((i : ℕ) → i < length seen → get_or seen i 0 ≡ at → ⊥)
+pub walk_found : (n : ℕ) (s seen : List ℕ) (at : ℕ) (os : List ℕ) (start : Option ℕ) → All (InSlot s) seen → Different seen → ((i : ℕ) → i < length seen → get_or seen i 0 ≡ at → ⊥)
     → walk_from n s seen at ≡ Walked.walked os start → Found s n seen at os start
 unfolding walk_from
 walk_found zero s seen at os start a d f e = not_walked 5 os start e

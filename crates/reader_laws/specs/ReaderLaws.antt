@@ -1,10 +1,9 @@
 -- What holds of every opening, and of the reading calls on the unchanged slot.
-use Rattle.std.specs.Prelude.{ℕ, ◌+◌, ◌≤◌, ◌<◌, ◌≡◌, List, ◌⊎◌}
+use Rattle.std.specs.Prelude.{ℕ, ◌+◌, ◌≤◌, ◌<◌, ◌≡◌, List, ◌⊎◌, Some}
 use Rattle.layout.specs.Lists.{sum}
 use Rattle.layout.specs.Records.{Read, first_block_offset, header_at, read_header}
 use Rattle.layout.specs.Refusals.{block_limit}
 use Rattle.layout.specs.declared.BlockHeader.{BlockHeader}
-use Rattle.reader.specs.declared.LoopStart.{LoopStart}
 use Rattle.reader.specs.declared.HpsReader.{HpsReader}
 use Rattle.reader.specs.OpeningAndReading.{Opened, opening, Remaining, offset_in, offsets_from, data_remaining}
 use Rattle.reader.specs.CuesReadBack.{CueAnswer, first_cursor, nth_cue}
@@ -20,7 +19,7 @@ pub record Accepted (s : List ℕ) (r : HpsReader) : Type 0 where
   pub few : r.blocks ≤ block_limit
   pub first : offset_in r 0 ≡ first_block_offset
   pub different : (i j : ℕ) → i < j → j < r.blocks → offset_in r i ≡ offset_in r j → ⊥
-  pub loop : (i : ℕ) → r.loop_start ≡ LoopStart.Block i → i < r.blocks
+  pub loop : (i : ℕ) → r.loop_start ≡ Some i → i < r.blocks
   -- each header is read
   pub header : (i : ℕ) → i < r.blocks → (h : BlockHeader) × (read_header s (offset_in r i) ≡ Read.value h)
   -- addresses remaining never gives 1

@@ -1,86 +1,71 @@
 // The walk along the chain of blocks (document 01, "Opening and reading").
-ghost use Rattle.std.specs.Prelude.{◌≡◌, [], ℕ, ◌≤◌, ◌<◌, length, replicate};
+ghost use Rattle.std.specs.Prelude.{◌≡◌, [], ◌≤◌, length, slice_index, EachIndex, IfOk, position, eqb};
 ghost use Rattle.layout.specs.Records.{first_block_offset};
+ghost use Rattle.layout.specs.Answers.{says};
 ghost use Rattle.reader.specs.OpeningAndReading.{walk_from};
-ghost use Rattle.reader.specs.ReaderAnswers.{no_walk, walk_of, walked_over};
+ghost use Rattle.reader_open.specs.WalkAnswers.{walk_of, walked_over};
 
-use layout::answers::HeaderRead;
 use layout::limits::END_BLOCK_OFFSET;
+use layout::refusal::Refusal;
 use layout_read::block::read_header;
 use reader::FIRST_BLOCK_OFFSET;
-use reader::answers::{Walk, WalkReply};
 
-// Zeros in all places.
-fn clear(offsets: &mut [u32])
-    ensures { offsets.new ≡ replicate (length offsets.old) 0 }
-{
-    let mut i: usize = 0;
-    while i < offsets.len() {
-        offsets[i] = 0;
-        i += 1;
-    }
+#[derive(Clone, Copy)]
+pub struct Walk {
+    // The block that the last one goes on at.
+    pub loop_start: Option<usize>,
+    // How many blocks there are.
+    pub count: usize,
 }
 
-// A refused walk leaves no offset.
-fn refused(offsets: &mut [u32], number: u32) -> Walk
-    ensures value { result ≡ no_walk number }
-    ensures offsets_after { offsets.new ≡ replicate (length offsets.old) 0 }
+// The first block at an offset. One above the highest is not looked for, which keeps the walk fast.
+fn block_at(offsets: &[u32], highest: u32, offset: u32) -> Option<usize>
+    requires { EachIndex offsets.now (λ k. slice_index offsets.now k ≤ highest) }
+    ensures { result ≡ position (λ o. eqb o offset) offsets.now }
 {
-    clear(offsets);
-    Walk {
-        reply: WalkReply::Refused(number),
-        count: 0,
+    if offset > highest {
+        return None;
     }
+    offsets.iter().position(|o| *o == offset)
 }
 
-fn higher(a: u32, b: u32) -> u32
-    ensures { (a ≤ result) × (b ≤ result) }
+// The walk, which leaves the offsets that it came past where it is refused.
+fn walk_along(s: &[u8], offsets: &mut [u32]) -> Result<Walk, Refusal>
+    ensures value { says result ≡ walk_of (walk_from (length offsets.old) s.now [] first_block_offset) }
+    ensures offsets_after { IfOk result (λ w. offsets.new ≡ walked_over offsets.old (walk_from (length offsets.old) s.now [] first_block_offset)) }
 {
-    if a < b { b } else { a }
-}
-
-// Where to begin the search for an offset: past all that were walked if it is higher than the highest of them.
-fn search_from(next: u32, highest: u32, count: usize) -> usize
-    ensures { (result ≤ count) × ((k : ℕ) → k < result → highest < next) }
-{
-    if next > highest {
-        return count;
+    let mut current = FIRST_BLOCK_OFFSET;
+    let mut highest = 0;
+    for i in 0..offsets.len() {
+        let header = read_header(s, current)?;
+        offsets[i] = current;
+        highest = current.max(highest);
+        let count = i + 1;
+        let next = header.next_offset;
+        if next == END_BLOCK_OFFSET {
+            return Ok(Walk {
+                loop_start: None,
+                count,
+            });
+        }
+        let loop_start = block_at(&offsets[..count], highest, next);
+        if loop_start.is_some() {
+            return Ok(Walk { loop_start, count });
+        }
+        current = next;
     }
-    0
+    Err(Refusal::TooManyBlocks)
 }
 
 // From the first block along the next offsets, until the end or a block already walked. Each block's offset is put into a lent place; a block for which
-// there is none is one too many.
-pub fn walk_blocks(s: &[u8], offsets: &mut [u32]) -> Walk
-    ensures value { result ≡ walk_of (walk_from (length offsets.old) s.now [] first_block_offset) }
+// there is none is one too many. A refused walk leaves zeros in all places.
+pub fn walk_blocks(s: &[u8], offsets: &mut [u32]) -> Result<Walk, Refusal>
+    ensures value { says result ≡ walk_of (walk_from (length offsets.old) s.now [] first_block_offset) }
     ensures offsets_after { offsets.new ≡ walked_over offsets.old (walk_from (length offsets.old) s.now [] first_block_offset) }
 {
-    let mut count: usize = 0;
-    let mut current: u32 = FIRST_BLOCK_OFFSET;
-    let mut highest: u32 = 0;
-    let reply = 'walk: loop {
-        if count >= offsets.len() {
-            return refused(offsets, 5);
-        }
-        let read = read_header(s, current);
-        let HeaderRead::Value(header) = read else {
-            return refused(offsets, read.number());
-        };
-        offsets[count] = current;
-        count += 1;
-        highest = higher(highest, current);
-        let next = header.next_offset;
-        if next == END_BLOCK_OFFSET {
-            break WalkReply::End;
-        }
-        let mut i = search_from(next, highest, count);
-        while i < count {
-            if offsets[i] == next {
-                break 'walk WalkReply::Loop(i);
-            }
-            i += 1;
-        }
-        current = next;
-    };
-    Walk { reply, count }
+    let walk = walk_along(s, offsets);
+    if walk.is_err() {
+        offsets.fill(0);
+    }
+    walk
 }

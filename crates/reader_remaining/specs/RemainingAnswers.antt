@@ -1,7 +1,10 @@
--- What addresses remaining returns: the enum for each answer of the definition.
-use Rattle.reader_remaining.specs.declared.RemainingReply.{RemainingReply}
+-- What addresses remaining returns.
+use Rattle.std.specs.Prelude.{ℕ, Result, Ok, Err}
+use Rattle.layout.specs.Answers.{number_of}
+use Rattle.layout.specs.declared.refusal.Refusal.{Refusal}
 use Rattle.reader.specs.OpeningAndReading.{Remaining}
 
-abbrev pub remaining_reply : Remaining → RemainingReply
-remaining_reply (Remaining.refused n) = RemainingReply.Refused n
-remaining_reply (Remaining.addresses n) = RemainingReply.Addresses n
+-- What the call's result says: the sum, or the refusal's number.
+abbrev pub remaining_says : Result ℕ Refusal → Remaining
+remaining_says (Ok n) = Remaining.addresses n
+remaining_says (Err e) = Remaining.refused (number_of e)

@@ -2,6 +2,7 @@
 ghost use Rattle.std.specs.Prelude.{◌<◌, ◌≡◌, length};
 ghost use Rattle.reader.specs.OpeningAndReading.{Readable};
 
+use crate::records::Records;
 use crate::slot::{is_context, whole_slot};
 use key_listing::start::start_listing;
 use layout::{FrameContext, least};
@@ -65,14 +66,9 @@ fn due_at(samples: &[u8], i: usize) -> i16 {
 }
 
 fn are_places(lent: &[i16], samples: &[u8]) -> bool {
-    let mut i: usize = 0;
-    while i < lent.len() {
-        if lent[i] != due_at(samples, i) {
-            return false;
-        }
-        i += 1;
-    }
-    true
+    lent.iter()
+        .enumerate()
+        .all(|(i, place)| *place == due_at(samples, i))
 }
 
 fn is_decoded(s: &[u8], r: HpsReader, want: &[u8], samples: &[u8], lent: &mut [i16]) -> bool
@@ -93,35 +89,32 @@ fn is_answer(s: &[u8], r: HpsReader, want: &[u8], samples: &[u8]) -> bool
     is_decoded(s, r, want, samples, &mut lent[..most])
 }
 
-// From an offset of the body on: what goes in and what comes out, and the samples, again and again.
-fn other_answer(s: &[u8], r: HpsReader, body: &[u8], from: usize) -> usize
-    requires { Readable r × (from < 8589934608) }
+// What goes in and what comes out, and the samples, again and again: the number of the first that is another, from 1 on.
+fn other_answer(s: &[u8], r: HpsReader, body: &[u8]) -> Option<usize>
+    requires { Readable r }
 {
-    let mut at = from;
-    let mut turns: usize = 0;
-    while turns < QUESTIONS {
-        if at >= body.len() {
-            return 0;
+    let mut answers = Records::<32, 2>(body);
+    for turn in 0..QUESTIONS {
+        let answer = answers.next()?;
+        let want = part(answer.head, 0, ANSWER);
+        let good = match answer.body {
+            None => false,
+            Some(samples) => is_answer(s, r, want, samples),
+        };
+        if !good {
+            return Some(1 + turn);
         }
-        let n = 2 * size(body, at + 32);
-        let samples = part(body, at + ANSWER, n);
-        let good = is_answer(s, r, part(body, at, ANSWER), samples);
-        if !(good & (samples.len() == n)) {
-            return 1 + turns;
-        }
-        at = at + ANSWER + n;
-        turns += 1;
     }
-    1 + turns
+    Some(1 + QUESTIONS)
 }
 
-// 0 the slot's length, 4 how many bytes of it are here, the others being 0, 8 these bytes; then the answers. Gives 0, or 1 and the number of the first that is
-// another.
-pub(crate) fn decoding_case(body: &[u8]) -> usize {
+// 0 the slot's length, 4 how many bytes of it are here, the others being 0, 8 these bytes; then the answers. Gives the number of the first that is another,
+// from 1 on.
+pub(crate) fn decoding_case(body: &[u8]) -> Option<usize> {
     let mut whole = whole_slot();
     let n = size(body, 4);
     put_bytes(&mut whole, 0, part(body, 8, n));
     let slot = part(&whole, 0, size(body, 0));
     let r = start_listing(slot).reader;
-    other_answer(slot, r, body, 8 + n)
+    other_answer(slot, r, body.get(8 + n..).unwrap_or(&[]))
 }

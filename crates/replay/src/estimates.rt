@@ -11,9 +11,10 @@ fn is_reply(reply: EstimateReply, due: u32, length: u64) -> bool {
 }
 
 // 0 the number of the refusal, or 0; then what the estimate is given; 32 the estimate.
-pub(crate) fn estimate_case(body: &[u8]) -> usize {
+pub(crate) fn estimate_case(body: &[u8]) -> Option<usize> {
     if is_reply(estimate_at(body), word(body, 0), long(body, 32)) {
-        return 0;
+        None
+    } else {
+        Some(1)
     }
-    1
 }

@@ -1,7 +1,8 @@
 // A stream loaded through begin, cue, push and finish, with calls among them that are refused, held to recorded answers and bytes.
-ghost use Rattle.std.specs.Prelude.{◌≡◌, length};
+ghost use Rattle.std.specs.Prelude.{◌≡◌, length, MatchOption};
 ghost use Rattle.writer.specs.Calls.{Good};
 
+use crate::records::Records;
 use layout::least;
 use layout::limits::{BLOCK_HEADER_SIZE, CUE_LIMIT, CUE_POINT_SIZE, MONO_LIMIT};
 use layout_number_or_zero::word;
@@ -18,16 +19,10 @@ const SLOT: usize = 262144;
 // The longest block: header, cues, data.
 const LENT: usize = BLOCK_HEADER_SIZE + CUE_POINT_SIZE * CUE_LIMIT + MONO_LIMIT;
 
-// What a step leaves: the record, and whether all went as the step says.
-#[derive(Clone, Copy)]
-pub struct Left {
-    pub writer: HpsWriter,
-    pub good: bool,
-}
-
-fn run_call(step: &[u8], w: HpsWriter, slot: &mut [u8], lent: &mut [u8]) -> Left
+// A step's call, and the writes that it hands out. The record afterwards, if all went as the step says.
+fn run_call(step: &[u8], w: HpsWriter, slot: &mut [u8], lent: &mut [u8]) -> Option<HpsWriter>
     requires { Good w }
-    ensures { Good result.writer }
+    ensures { MatchOption result Unit (λ left. Good left) }
 {
     let call = make(step, w, lent);
     let writer = call.writer;
@@ -40,13 +35,13 @@ fn run_call(step: &[u8], w: HpsWriter, slot: &mut [u8], lent: &mut [u8]) -> Left
         size(step, 12),
         lent,
     );
-    Left { writer, good }
+    if good { Some(writer) } else { None }
 }
 
 // A call that is lent so many bytes of this buffer.
-fn lend(step: &[u8], w: HpsWriter, slot: &mut [u8], lent: &mut [u8]) -> Left
+fn lend(step: &[u8], w: HpsWriter, slot: &mut [u8], lent: &mut [u8]) -> Option<HpsWriter>
     requires { Good w }
-    ensures { Good result.writer }
+    ensures { MatchOption result Unit (λ left. Good left) }
 {
     let most = least(size(step, 28), lent.len());
     run_call(step, w, slot, &mut lent[..most])
@@ -58,53 +53,46 @@ fn has_bytes(slot: &[u8], at: usize, bytes: &[u8]) -> bool {
 }
 
 // 0 what is done, 4 the number of the refusal, or 0, 8 the slot's length, with bytes their place; then what the call is given.
-fn run_step(step: &[u8], w: HpsWriter, slot: &mut [u8], lent: &mut [u8]) -> Left
+fn run_step(step: &[u8], w: HpsWriter, slot: &mut [u8], lent: &mut [u8]) -> Option<HpsWriter>
     requires { Good w }
-    ensures { Good result.writer }
+    ensures { MatchOption result Unit (λ left. Good left) }
 {
     let n = size(step, 8);
     let bytes = part(step, 32, size(step, 12));
     match word(step, 0) {
         1 => {
             put_bytes(slot, n, bytes);
-            Left {
-                writer: w,
-                good: true,
-            }
+            Some(w)
         }
         2..=5 => lend(step, w, slot, lent),
         6 => {
-            let good = has_bytes(slot, n, bytes);
-            Left { writer: w, good }
+            if has_bytes(slot, n, bytes) {
+                Some(w)
+            } else {
+                None
+            }
         }
-        _ => Left {
-            writer: w,
-            good: false,
-        },
+        _ => None,
     }
 }
 
-// Steps one after the other, each with its length before it. Gives 0, or 1 and the number of the first that went another way; 1 where there is none.
-fn other_step(body: &[u8], begun: HpsWriter, slot: &mut [u8], lent: &mut [u8]) -> usize
+// Steps one after the other: the number of the first that went another way, from 1 on; 1 where there is none.
+fn other_step(body: &[u8], begun: HpsWriter, slot: &mut [u8], lent: &mut [u8]) -> Option<usize>
     requires { Good begun }
 {
     let mut w = begun;
-    let mut at: usize = 0;
-    let mut steps: usize = 0;
-    while steps < STEPS {
-        let n = size(body, at);
-        let left = run_step(part(body, at + 4, n), w, slot, lent);
-        if !left.good {
-            return 1 + steps;
+    let mut rest = Records::<0, 1>(body);
+    for turn in 0..STEPS {
+        let step = rest.next().and_then(|record| record.body).unwrap_or(&[]);
+        let Some(left) = run_step(step, w, slot, lent) else {
+            return Some(1 + turn);
+        };
+        if rest.0.is_empty() {
+            return None;
         }
-        w = left.writer;
-        at = at + 4 + n;
-        if at >= body.len() {
-            return 0;
-        }
-        steps += 1;
+        w = left;
     }
-    1 + steps
+    Some(1 + STEPS)
 }
 
 fn empty_slot() -> [u8; SLOT]
@@ -120,7 +108,7 @@ fn lent_buffer() -> [u8; LENT]
 }
 
 // The steps over a slot of zeros, before any begin.
-pub(crate) fn loading_case(body: &[u8]) -> usize {
+pub(crate) fn loading_case(body: &[u8]) -> Option<usize> {
     let mut slot = empty_slot();
     let mut lent = lent_buffer();
     let none = begin(0, 0, Looping::Auto, &mut lent);

@@ -4,6 +4,7 @@ ghost use Rattle.reader.specs.OpeningAndReading.{Readable, block_read};
 ghost use Rattle.reader_block.specs.BlockAnswers.{block_call};
 ghost use Rattle.layout.specs.Refusals.{block_limit};
 
+use crate::records::Records;
 use host_io::large_buffer;
 use key_listing::listing::fill;
 use key_listing::start::start_listing;
@@ -34,20 +35,18 @@ fn is_listing(s: &[u8], want: &[u8]) -> bool {
     let r = start.reader;
     let mut stage = start.stage;
     let mut out = large_buffer();
-    let mut done: usize = 0;
-    let mut turns: usize = 0;
-    while turns < TURNS {
+    let mut rest = want;
+    for _ in 0..TURNS {
         let filled = fill(s, r, stage, &mut out);
         let n = filled.length;
         if n == 0 {
-            return done == want.len();
+            return rest.is_empty();
         }
-        if &out[..n] != part(want, done, n) {
+        let Some(after) = rest.strip_prefix(&out[..n]) else {
             return false;
-        }
+        };
+        rest = after;
         stage = filled.stage;
-        done = done + n;
-        turns += 1;
     }
     false
 }
@@ -78,8 +77,8 @@ fn is_info(
 ) -> bool
     requires { at < 400 }
 {
-    for i in 0..16 {
-        if coefficients[i] != signed(want, at + 2 * i) {
+    for (i, coefficient) in coefficients.iter().enumerate() {
+        if *coefficient != signed(want, at + 2 * i) {
             return false;
         }
     }
@@ -173,44 +172,39 @@ fn is_answer(
         & (block_data(s, r, channel, position) == data)
 }
 
-// From an offset of the body on: channel, position, the answer, how many bytes of data and the data, again and again.
-fn other_answer(s: &[u8], r: HpsReader, body: &[u8], from: usize) -> usize
-    requires { Readable r × (from < 17179869184) }
+// Channel, position, the answer, how many bytes of data and the data, again and again: the number of the first that is another, from 3 on.
+fn other_answer(s: &[u8], r: HpsReader, body: &[u8]) -> Option<usize>
+    requires { Readable r }
 {
-    let mut at = from;
-    let mut turns: usize = 0;
-    while turns < QUESTIONS {
-        if at >= body.len() {
-            return 0;
+    let mut answers = Records::<84, 1>(body);
+    for turn in 0..QUESTIONS {
+        let answer = answers.next()?;
+        let head = answer.head;
+        let want = part(head, 8, ANSWER);
+        let good = match answer.body {
+            None => false,
+            Some(data) => is_answer(s, r, size(head, 0), size(head, 4), want, data),
+        };
+        if !good {
+            return Some(3 + turn);
         }
-        let n = size(body, at + 84);
-        let want = part(body, at + 8, ANSWER);
-        let data = part(body, at + 88, n);
-        let good = is_answer(s, r, size(body, at), size(body, at + 4), want, data);
-        if !(good & (data.len() == n)) {
-            return 3 + turns;
-        }
-        at = at + 88 + n;
-        turns += 1;
     }
-    3 + turns
+    Some(3 + QUESTIONS)
 }
 
 // The two channels of an opening, and what is read of it. Nothing is recorded of a refused one.
-fn other_read(s: &[u8], body: &[u8], at: usize) -> usize
-    requires { at < 8589934608 }
-{
-    if at >= body.len() {
-        return 0;
+fn other_read(s: &[u8], body: &[u8]) -> Option<usize> {
+    if body.is_empty() {
+        return None;
     }
     let r = start_listing(s).reader;
     let channels = r.channels;
-    let good = is_channel(channels[0], part(body, at, CHANNEL))
-        & is_channel(channels[1], part(body, at + CHANNEL, CHANNEL));
+    let good = is_channel(channels[0], part(body, 0, CHANNEL))
+        & is_channel(channels[1], part(body, CHANNEL, CHANNEL));
     if good {
-        return other_answer(s, r, body, at + 2 * CHANNEL);
+        return other_answer(s, r, body.get(2 * CHANNEL..).unwrap_or(&[]));
     }
-    2
+    Some(2)
 }
 
 pub(crate) fn whole_slot() -> [u8; LONGEST]
@@ -220,15 +214,15 @@ pub(crate) fn whole_slot() -> [u8; LONGEST]
 }
 
 // 0 the slot's length, 4 how many bytes of it are here, the others being 0, 8 these bytes; then the length of its listing and the listing; then what is read.
-// Gives 0, 1 if the listing is another, 2 if a channel is, and 3 and the number of the first answer that is.
-pub(crate) fn slot_case(body: &[u8]) -> usize {
+// Gives 1 if the listing is another, 2 if a channel is, and from 3 on the number of the first answer that is.
+pub(crate) fn slot_case(body: &[u8]) -> Option<usize> {
     let mut whole = whole_slot();
     let n = size(body, 4);
     put_bytes(&mut whole, 0, part(body, 8, n));
     let slot = part(&whole, 0, size(body, 0));
     let m = size(body, 8 + n);
     if !is_listing(slot, part(body, 12 + n, m)) {
-        return 1;
+        return Some(1);
     }
-    other_read(slot, body, 12 + n + m)
+    other_read(slot, body.get(12 + n + m..).unwrap_or(&[]))
 }

@@ -25,9 +25,10 @@ pub fn part<'a>(s: &'a [u8], at: usize, n: usize) -> &'a [u8]
 {
     if inside(s.len(), at, n) {
         let end = at + n;
-        return &s[at..end];
+        &s[at..end]
+    } else {
+        &[]
     }
-    &s[..0]
 }
 
 // A big-endian u32 that is a length or a place.

@@ -1,7 +1,7 @@
 -- Which line comes next.
 use Prim.Native.Nat.{ℕ, zero, suc, ◌<◌, ◌≤◌}
 use mathlib.Core.Path.{◌≡◌, refl, ap, sym, ◌∙◌}
-use mathlib.Core.Bool.{Bool, true, false}
+use mathlib.Core.Bool.{true, false}
 use mathlib.Core.List.{List, [], ◌∷◌}
 use native.Mathlib.Omega.{arith}
 use lib.ListN.{length, take, drop, get_or, length-drop, drop_of_length-le}
@@ -10,19 +10,15 @@ use borrow.Author.Tests.{eq-eqb, ne_eqb}
 use Rattle.layout.specs.Lists.{filter, first_index}
 use Rattle.script_words.specs.Texts.{word_count, line_of, lines_after, lines_of, uncommented}
 use Rattle.script_words.proofs.TextLaws.{lines_none, lines_next}
-use Rattle.script_lines.specs.Lines.{is_kind, line_kind, lent_line}
+use Rattle.script_lines.specs.Lines.{line_kind, lent_line}
 use Rattle.script_lines.specs.declared.kinds.Kind.{Kind}
-use Rattle.script_lines.specs.declared.lines.LentLine.{LentLine}
 use Rattle.script_lines.proofs.LineLaws.{not_kind}
 use Rattle.script_lines.specs.declared.kinds.Kind.TheVariants as Kinds
 use Rattle.script_groups.specs.Order.{said, sides_in, lent_by, opening_from, Said, Starts}
 
 -- ---- Kinds
 
-pub no_begin : (k : Kind) → (k ≡ Kinds.Begin → ⊥) → is_kind k Kinds.Begin ≡ false
-no_begin k h = not_kind k Kinds.Begin h
-
-pub lent_set : {k : Kind} (l : List ℕ) (n : ℕ) {r : LentLine} → k ≡ Kinds.Lent → r ≡ lent_line l → r.length ≡ lent_by k l n
+pub lent_set : {k : Kind} (l : List ℕ) (n : ℕ) {r : ℕ} → k ≡ Kinds.Lent → r ≡ lent_line l → r ≡ lent_by k l n
 unfolding lent_by
 lent_set l n e r = rw (e, r)
 
@@ -127,16 +123,16 @@ pub opens-none : (s : List ℕ) (lent : ℕ) → Opens s lent 0 lent
 opens-none s lent = record { is = refl }
 
 module _ {s : List ℕ} {lent at here : ℕ} (k : Opens s lent at here) where
-  module _ {line : List ℕ} {kind : Kind} {b : Bool} (h : at < length s) (l : line ≡ line_of (drop at s)) (e : kind ≡ line_kind line) (t : b ≡ is_kind kind Kinds.Begin) where
-    pub opens-here : b ≡ true → Starts s lent (record { at = at; lent = here })
+  module _ {line : List ℕ} {kind : Kind} (h : at < length s) (l : line ≡ line_of (drop at s)) (e : kind ≡ line_kind line) where
+    pub opens-here : kind ≡ Kinds.Begin → Starts s lent (record { at = at; lent = here })
     unfolding opening_from
     opens-here q =
-        let f : opening_from lent (lines_of s) ≡ record { line = line_of (drop at s); lent = here; rest = lines_of (lines_after (drop at s)) } = k.is ∙ rw (lines_at s at h, ← l, ← e, ← t, q) in
+        let f : opening_from lent (lines_of s) ≡ record { line = line_of (drop at s); lent = here; rest = lines_of (lines_after (drop at s)) } = k.is ∙ rw (lines_at s at h, ← l, ← e, q) in
         record { line = rw f; buffer = rw f; rest = rw f }
 
-    pub opens_later : {next more : ℕ} → b ≡ false → more ≡ lent_by kind line here → drop next s ≡ lines_after (drop at s) → Opens s lent next more
+    pub opens_later : {next more : ℕ} → (kind ≡ Kinds.Begin → ⊥) → more ≡ lent_by kind line here → drop next s ≡ lines_after (drop at s) → Opens s lent next more
     unfolding opening_from
-    opens_later q m d = record { is = k.is ∙ rw (lines_at s at h, ← l, ← e, ← t, q, m, d) }
+    opens_later q m d = record { is = k.is ∙ rw (lines_at s at h, ← l, ← e, not_kind kind Kinds.Begin q, m, d) }
 
   pub opens_never : length s ≤ at → Starts s lent (record { at = at; lent = here })
   unfolding opening_from

@@ -18,7 +18,7 @@ sides_in n ls = take n (filter said ls)
 
 -- "`LENT n` (the length of the lent buffer for the calls after it ..)": after a line of this kind
 unfoldable pub lent_by : Kind → List ℕ → (lent : ℕ) → ℕ
-lent_by k l n = pick (is_kind k Kinds.Lent) (lent_line l).length n
+lent_by k l n = pick (is_kind k Kinds.Lent) (lent_line l) n
 
 -- BEGN's line, how long the lent buffer is then, and the lines after it.
 pub record Opening : Type 0 where

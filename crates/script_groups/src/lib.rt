@@ -55,7 +55,7 @@ pub fn lent_after(line: &[u8], kind: Kind, lent: usize) -> usize
     ensures { result ≡ lent_by kind line.now lent }
 {
     if let Kind::Lent = kind {
-        return lent_line(line).length as usize;
+        return lent_line(line) as usize;
     }
     lent
 }
@@ -67,18 +67,6 @@ pub struct Start {
     pub lent: usize,
 }
 
-fn is_begin(kind: Kind) -> bool
-    ensures { result ≡ is_kind kind Kinds.Begin }
-{
-    if let Kind::Begin = kind {
-        return true;
-    }
-    false
-}
-
-ghost use Rattle.script_lines.specs.Lines.{is_kind};
-ghost use Rattle.script_lines.specs.declared.kinds.Kind.TheVariants as Kinds;
-
 // BEGN's line; the end where there is none.
 pub fn start_of(s: &[u8], lent: usize) -> Start
     ensures { Starts s.now lent result }
@@ -88,7 +76,7 @@ pub fn start_of(s: &[u8], lent: usize) -> Start
     while at < s.len() {
         let line = line_at(s, at);
         let kind = kind_of(line);
-        if is_begin(kind) {
+        if let Kind::Begin = kind {
             return Start { at, lent: length };
         }
         length = lent_after(line, kind, length);

@@ -1,3 +1,3 @@
 pub mod LineLaws
-pub mod ChannelLaws
 pub mod WholeLaws
+pub mod ChannelLaws

@@ -1,5 +1,8 @@
 -- Tests that the code joins, and the kinds that an arm takes.
-use Prim.Native.Nat.{ℕ}
+use Prim.Native.Nat.{ℕ, ◌≤◌}
+use native.Mathlib.Omega.{arith}
+use Rattle.std.specs.Prelude.{Option, Some, None, IfSome}
+use Rattle.std.specs.Option.{unwrap_or}
 use mathlib.Core.Path.{◌≡◌, refl, ap, sym, ◌∙◌}
 use mathlib.Core.Bool.{false}
 use mathlib.Core.List.{List}
@@ -45,3 +48,8 @@ not_kind k m h = ne_eqb (place k) (place m) (λ e. h (sym (at_place k) ∙ ap ki
 pub point-line : (l : List ℕ) (k : Kind) → (k ≡ Kinds.Range → ⊥) → (k ≡ Kinds.Loop → ⊥) → cue_named l CueKind.Point 2 ≡ cue_said l k
 unfolding cue_said
 point-line l k h i = rw (not_kind k Kinds.Range h, not_kind k Kinds.Loop i)
+
+-- A number that is answered is small, and 0 stands for none.
+pub unwrap_small : {m : ℕ} (r : Option ℕ) → IfSome r (λ n. n ≤ m) → unwrap_or r 0 ≤ m
+unwrap_small None h = omega arith
+unwrap_small (Some n) h = h

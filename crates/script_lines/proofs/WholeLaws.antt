@@ -7,6 +7,9 @@ use native.Mathlib.Omega.{arith}
 use native.Mathlib.Numerals.{add-one}
 use borrow.Author.Tests.{eq-eqb, ne_eqb, lt-ltb, le-ltb}
 use lib.Dec.{eqb}
+use Rattle.std.specs.Prelude.{Some, None}
+use Rattle.std.specs.Option.{is_some, unwrap_or}
+use Rattle.std.specs.Bool.{then_some}
 use lib.ListN.{length, drop, length-drop, drop_of_length-le}
 use Rattle.layout.specs.Choice.{pick, ◌and◌}
 use Rattle.script_words.specs.Texts.{line_of, lines_after, lines_of}
@@ -20,21 +23,25 @@ use Rattle.script_lines.proofs.LineLaws.{not_kind}
 
 -- ---- A line
 
+pub some_if : (b : Bool) (d : Due) → then_some b d ≡ pick b (Some d) None
+some_if true d = refl
+some_if false d = refl
+
 pub call_plain : (l : List ℕ) (k : Kind) (b : Bool)
     → (k ≡ Kinds.Begin → ⊥) → (k ≡ Kinds.Push → ⊥) → (k ≡ Kinds.Lent → ⊥) → (k ≡ Kinds.Channel → ⊥) → due b b 0 ≡ after_call l k b
 unfolding after_call
 call_plain l k b f g h i = rw (not_kind k Kinds.Begin f, not_kind k Kinds.Push g, not_kind k Kinds.Lent h, not_kind k Kinds.Channel i)
 
-pub no_channel_lem : (k : Kind) (n : ℕ) → (k ≡ Kinds.Channel → ⊥) → due false true n ≡ after_channel k n
+pub no_channel_lem : (k : Kind) (n : ℕ) → (k ≡ Kinds.Channel → ⊥) → None ≡ after_channel k n
 no_channel_lem k n h = rw (not_kind k Kinds.Channel h)
 
 module _ (l : List ℕ) (d : Due) {k : Kind} (e : k ≡ line_kind l) where
-  pub line-nothing : k ≡ Kinds.Nothing → d ≡ after_line l d
+  pub line-nothing : k ≡ Kinds.Nothing → Some d ≡ after_line l d
   unfolding after_line after_kind
   line-nothing f = rw (← e, f)
 
   module _ (o : k ≡ Kinds.Nothing → ⊥) where
-    pub line_unsaid : says_all l k ≡ false → due false d.begun d.channels ≡ after_line l d
+    pub line_unsaid : says_all l k ≡ false → None ≡ after_line l d
     unfolding after_line after_kind
     line_unsaid f = rw (← e, not_kind k Kinds.Nothing o, f)
 
@@ -51,25 +58,26 @@ module _ (l : List ℕ) (d : Due) {k : Kind} (e : k ≡ line_kind l) where
 -- The line that goes wrong is the one from this line on.
 pub record Walking (s : List ℕ) (d : Due) (n at : ℕ) : Type 0 where
   pub few : at ≤ length s
+  pub some : 0 < n
   pub small : n ≤ at + 1
   pub is : wrong_line s ≡ wrong_from d n (lines_of (drop at s))
 
-pub walk_none : (s : List ℕ) → Walking s (due true false 0) 1 0
+pub walk_none : (s : List ℕ) → Walking s (record { begun = false; channels = 0 }) 1 0
 unfolding wrong_line
-walk_none s = record { few = omega arith; small = omega arith; is = refl }
+walk_none s = record { few = omega arith; some = omega arith; small = omega arith; is = refl }
 
 module _ {s : List ℕ} {d : Due} {n at : ℕ} (w : Walking s d n at) where
-  module _ {l : List ℕ} {t : Due} (h : at < length s) (e : l ≡ line_of (drop at s)) (f : t ≡ after_line l d) where
-    walk_line : wrong_line s ≡ pick t.good (wrong_from t (suc n) (lines_of (lines_after (drop at s)))) n
+  module _ {l : List ℕ} (h : at < length s) (e : l ≡ line_of (drop at s)) where
+    walk_line : wrong_line s ≡ pick (is_some (after_line l d)) (wrong_from (unwrap_or (after_line l d) d) (suc n) (lines_of (lines_after (drop at s)))) n
     unfolding wrong_from
-    walk_line = w.is ∙ rw (lines_next (drop at s) (simp length-drop (omega arith)), ← e, ← f)
+    walk_line = w.is ∙ rw (lines_next (drop at s) (simp length-drop (omega arith)), ← e)
 
-    pub walk_wrong : t.good ≡ false → n ≡ wrong_line s
-    walk_wrong g = sym (walk_line ∙ rw g)
+    pub walk_wrong : None ≡ after_line l d → n ≡ wrong_line s
+    walk_wrong f = sym (walk_line ∙ rw (← f))
 
-    pub walk_more : {r : ℕ} → t.good ≡ true → drop r s ≡ lines_after (drop at s) → (r ≤ length s) × (at < length s → at < r) → Walking s t (n + 1) r
-    walk_more {r} g i b =
-        record { few = b.0; small = omega (arith, w.small, b.1 h); is = walk_line ∙ rw (g, i, add-one n) }
+    pub walk_more : {t : Due} {r : ℕ} → Some t ≡ after_line l d → drop r s ≡ lines_after (drop at s) → (r ≤ length s) × (at < length s → at < r) → Walking s t (n + 1) r
+    walk_more {t} {r} f i b =
+        record { few = b.0; some = omega arith; small = omega (arith, w.small, b.1 h); is = walk_line ∙ rw (← f, i, add-one n) }
 
   walk_end : length s ≤ at → wrong_line s ≡ pick (d.begun and eqb d.channels 0) 0 n
   unfolding wrong_from

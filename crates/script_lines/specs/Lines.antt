@@ -1,24 +1,20 @@
 -- What each kind of line says.
-use Rattle.std.specs.Prelude.{ℕ, zero, suc, ◌+◌, ◌*◌, Bool, true, List, [], ◌∷◌, length, eqb, ℤ}
+use Rattle.std.specs.Prelude.{ℕ, zero, suc, ◌+◌, ◌*◌, Bool, true, List, [], ◌∷◌, length, eqb, ℤ, pos}
+use Rattle.std.specs.Option.{is_some, unwrap_or}
 use Rattle.layout.specs.Choice.{pick, ◌and◌}
 use Rattle.layout_number_or_zero.specs.NumberOrZero.{word_at}
 use Rattle.script_words.specs.Texts.{word_from, word_count}
 use Rattle.script_words.specs.Numbers.{decimal_of, small_of}
 use Rattle.script_words.specs.Data.{is_data, bytes_said}
-use Rattle.script_words.specs.declared.numbers.Number.{Number}
-use Rattle.script_words.specs.declared.numbers.Small.{Small}
 use Rattle.writer.specs.Loading.{Side, mode_of}
 use Rattle.writer.specs.declared.CueKind.{CueKind}
+use Rattle.writer.specs.declared.Cue.{Cue}
 use Rattle.writer.specs.declared.ChannelBlock.{ChannelBlock}
+use Rattle.layout.specs.declared.FrameContext.{FrameContext}
 use Rattle.script_lines.specs.declared.kinds.Kind.{Kind}
 use Rattle.script_lines.specs.declared.kinds.Kind.TheVariants as Kinds
 use Rattle.script_lines.specs.declared.lines.BeginLine.{BeginLine}
-use Rattle.script_lines.specs.declared.lines.CueLine.{CueLine}
 use Rattle.script_lines.specs.declared.lines.PushLine.{PushLine}
-use Rattle.script_lines.specs.declared.channels.ChannelLine.{ChannelLine}
-use Rattle.script_lines.specs.declared.channels.Coefficients.{Coefficients}
-use Rattle.script_lines.specs.declared.channels.Context.{Context}
-use Rattle.script_lines.specs.declared.lines.LentLine.{LentLine}
 
 -- ---- Kinds
 
@@ -77,65 +73,81 @@ most32 = 4294967295
 abbrev pub most16 : ℕ
 most16 = 65535
 
--- A word as a decimal of at most max.
-unfoldable pub decimal_at : List ℕ → (i max : ℕ) → Number
-decimal_at l i max = decimal_of max (word_from l i)
+-- A word as a decimal of at most max; 0 where it is none.
+unfoldable pub number_at : List ℕ → (i max : ℕ) → ℕ
+number_at l i max = unwrap_or (decimal_of max (word_from l i)) 0
 
--- A word as a decimal of -32,768 to 32,767.
-unfoldable pub small_at : List ℕ → (i : ℕ) → Small
-small_at l i = small_of (word_from l i)
+-- Is it one?
+unfoldable pub says_number : List ℕ → (i max : ℕ) → Bool
+says_number l i max = is_some (decimal_of max (word_from l i))
 
--- ---- Lines
+-- A word as a decimal of -32,768 to 32,767; 0 where it is none.
+unfoldable pub signed_at : List ℕ → (i : ℕ) → ℤ
+signed_at l i = unwrap_or (small_of (word_from l i)) (pos 0)
+
+unfoldable pub says_signed : List ℕ → (i : ℕ) → Bool
+says_signed l i = is_some (small_of (word_from l i))
+
+-- ---- Lines: what each says, and whether it says all
 
 -- "`BEGN channels mode`", "0 Disabled, 1 Enabled, 2 Auto"
 unfoldable pub begin_line : List ℕ → BeginLine
-begin_line l =
-    record { good = (decimal_at l 1 most64).good and (decimal_at l 2 2).good; channels = (decimal_at l 1 most64).value; mode = mode_of (decimal_at l 2 2).value }
+begin_line l = record { channels = number_at l 1 most64; mode = mode_of (number_at l 2 2) }
+
+abbrev pub says_begin : List ℕ → Bool
+says_begin l = says_number l 1 most64 and says_number l 2 2
 
 -- A cue of this kind, whose name is this word.
-unfoldable pub cue_named : List ℕ → CueKind → (name : ℕ) → CueLine
-cue_named l k i =
-    record { good = (decimal_at l 1 most64).good and (decimal_at l i most32).good; cue = record { start = (decimal_at l 1 most64).value; kind = k; name = (decimal_at l i most32).value } }
+unfoldable pub cue_named : List ℕ → CueKind → (name : ℕ) → Cue
+cue_named l k i = record { start = number_at l 1 most64; kind = k; name = number_at l i most32 }
+
+abbrev pub says_named : List ℕ → (name : ℕ) → Bool
+says_named l i = says_number l 1 most64 and says_number l i most32
 
 -- "`CUER start length name`"
-unfoldable pub range_line : List ℕ → CueLine
-range_line l =
-    record { good = (cue_named l (CueKind.Range (decimal_at l 2 most64).value) 3).good and (decimal_at l 2 most64).good; cue = (cue_named l (CueKind.Range (decimal_at l 2 most64).value) 3).cue }
+unfoldable pub range_line : List ℕ → Cue
+range_line l = cue_named l (CueKind.Range (number_at l 2 most64)) 3
+
+abbrev pub says_range : List ℕ → Bool
+says_range l = says_named l 3 and says_number l 2 most64
 
 -- "`CUEP start name` · `LOOP start name` · `CUER start length name`"
-unfoldable pub cue_said : List ℕ → Kind → CueLine
+unfoldable pub cue_said : List ℕ → Kind → Cue
 cue_said l k = pick (is_kind k Kinds.Range) (range_line l) (pick (is_kind k Kinds.Loop) (cue_named l CueKind.Loop 2) (cue_named l CueKind.Point 2))
+
+unfoldable pub says_cue : List ℕ → Kind → Bool
+says_cue l k = pick (is_kind k Kinds.Range) (says_range l) (says_named l 2)
 
 -- "`PUSH channels last`"
 unfoldable pub push_line : List ℕ → PushLine
-push_line l =
-    record { good = (decimal_at l 1 most64).good and (decimal_at l 2 1).good; channels = (decimal_at l 1 most64).value; last = eqb (decimal_at l 2 1).value 1 }
+push_line l = record { channels = number_at l 1 most64; last = eqb (number_at l 2 1) 1 }
+
+abbrev pub says_push : List ℕ → Bool
+says_push l = says_number l 1 most64 and says_number l 2 1
 
 -- "`LENT n`"
-unfoldable pub lent_line : List ℕ → LentLine
-lent_line l = record { good = (decimal_at l 1 most64).good; length = (decimal_at l 1 most64).value }
+unfoldable pub lent_line : List ℕ → ℕ
+lent_line l = number_at l 1 most64
+
+abbrev pub says_lent : List ℕ → Bool
+says_lent l = says_number l 1 most64
 
 -- So many coefficients from a word on.
 unfoldable pub coefficients_from : List ℕ → (i many : ℕ) → List ℤ
 coefficients_from l i zero = []
-coefficients_from l i (suc n) = (small_at l i).value ∷ coefficients_from l (suc i) n
+coefficients_from l i (suc n) = signed_at l i ∷ coefficients_from l (suc i) n
 
 -- Whether they are all good.
-unfoldable pub good_from : List ℕ → (i many : ℕ) → Bool
-good_from l i zero = true
-good_from l i (suc n) = (small_at l i).good and good_from l (suc i) n
+unfoldable pub says_coefficients : List ℕ → (i many : ℕ) → Bool
+says_coefficients l i zero = true
+says_coefficients l i (suc n) = says_signed l i and says_coefficients l (suc i) n
 
--- CHAN's sixteen coefficients.
-abbrev pub coefficients_of : List ℕ → Coefficients
-coefficients_of l = record { good = good_from l 7 16; values = coefficients_from l 7 16 }
+-- A CHAN line's context: ps s0 s1.
+unfoldable pub context_of : List ℕ → FrameContext
+context_of l = record { predictor_and_scale = number_at l 4 most16; last = signed_at l 5; oldest = signed_at l 6 }
 
--- Its context: ps s0 s1.
-unfoldable pub context_of : List ℕ → Context
-context_of l =
-    record {
-      good = (decimal_at l 4 most16).good and (small_at l 5).good and (small_at l 6).good;
-      context = record { predictor_and_scale = (decimal_at l 4 most16).value; last = (small_at l 5).value; oldest = (small_at l 6).value };
-    }
+abbrev pub says_context : List ℕ → Bool
+says_context l = says_number l 4 most16 and says_signed l 5 and says_signed l 6
 
 -- Its data, as text.
 abbrev pub data_word : List ℕ → List ℕ
@@ -144,15 +156,12 @@ data_word l = word_from l 23
 -- "`CHAN rate length gain ps s0 s1 c0 .. c15 HEX`": what it says of the channel beside its data
 unfoldable pub channel_block : List ℕ → ChannelBlock
 channel_block l =
-    record { rate = (decimal_at l 1 most32).value; length = (decimal_at l 2 most64).value; coefficients = coefficients_from l 7 16; gain = (decimal_at l 3 most16).value; context = (context_of l).context }
+    record { rate = number_at l 1 most32; length = number_at l 2 most64; coefficients = coefficients_from l 7 16; gain = number_at l 3 most16; context = context_of l }
 
 -- Whether it says all.
-unfoldable pub good_channel : List ℕ → Bool
-good_channel l =
-    (decimal_at l 1 most32).good and (decimal_at l 2 most64).good and (decimal_at l 3 most16).good and (context_of l).good and good_from l 7 16 and is_data (data_word l)
-
-unfoldable pub channel_line : List ℕ → ChannelLine
-channel_line l = record { good = good_channel l; block = channel_block l }
+unfoldable pub says_channel : List ℕ → Bool
+says_channel l =
+    says_number l 1 most32 and says_number l 2 most64 and says_number l 3 most16 and says_context l and says_coefficients l 7 16 and is_data (data_word l)
 
 -- A channel of a push.
 unfoldable pub side_said : List ℕ → Side

@@ -4,7 +4,8 @@ ghost use Rattle.script_lines.specs.Lines.{with_words, name_said, line_kind};
 
 use script_words::text::{word, word_count};
 
-// The first words, as big-endian numbers of their four letters.
+// The first words, as big-endian numbers of their four letters; written out, since a constant calls no from_be_bytes, and a match on the letters would test them
+// one by one, with a path for each word's part.
 const BEGN: u32 = 0x4245474e;
 
 const CUEP: u32 = 0x43554550;
@@ -22,7 +23,7 @@ const FINI: u32 = 0x46494e49;
 const LENT: u32 = 0x4c454e54;
 
 // What a line's first word says it is; nothing is a line with no word.
-#[derive(Clone, Copy)]
+#[derive(Clone, Copy, PartialEq, Eq)]
 pub enum Kind {
     Nothing,
     Begin,

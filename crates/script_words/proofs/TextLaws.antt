@@ -1,53 +1,71 @@
 -- Lines of a text and their words.
-use Prim.Native.Nat.{ℕ, zero, suc, ◌+◌, ◌-◌, ◌<◌, ◌≤◌}
+use Prim.Native.Nat.{ℕ, zero, suc, ◌+◌, ◌-◌, ◌<◌, ◌≤◌, min}
 use mathlib.Core.Path.{◌≡◌, refl, ap, sym, ◌∙◌}
-use mathlib.Core.Bool.{Bool, true, false, not, beq}
+use mathlib.Core.Bool.{Bool, true, false, not, cond}
 use mathlib.Core.List.{List, [], ◌∷◌, ◌++◌}
 use native.Mathlib.Omega.{arith}
 use native.Mathlib.Numerals.{add-one}
 use lib.ListN.{length, get_or, take, drop, length-take, length-drop, drop_of_length-le}
 use lib.Dec.{ltb}
-use lib.Seq.{drop-cons, drop-length, drop-drop, take-suc, take-length, length-take-le}
+use Rattle.std.specs.Prelude.{Some, None}
+use Rattle.std.specs.List.{position, position_or_len}
+use Rattle.std.proofs.lemmas.List.Recursion.{is_position_or_len}
+use lib.Seq.{drop-cons, drop-length, drop-drop, take-length, length-take-le}
 use borrow.Author.Tests.{ltb-true, lt-ltb, eq-eqb, ne_eqb}
 use Rattle.layout.specs.Choice.{pick, ◌and◌}
 use Rattle.layout.specs.Lists.{first_index}
+use Rattle.std.proofs.lemmas.Bool.{ltb-false}
 use Rattle.layout.proofs.Cases.{by_cases}
 use Rattle.script_words.specs.Texts.{ends_line, starts_comment, uncommented, whole_line, whole_lines, line_of, lines_after, onto, parted, lines_of, is_blank, is_letter, from_word}
 use Rattle.script_words.specs.Texts.{first_word, after_word, word_from, words_from, word_count}
 
--- ---- A scan for the first byte that passes a test
+-- ---- The first byte that passes a test
 
--- What is answered of a scan.
-abbrev pub Stop : (p : ℕ → Bool) (s : List ℕ) (from r : ℕ) → Type 0
-Stop p s from r = (r ≡ from + first_index p (drop from s)) × (r ≤ length s)
-
--- No byte from `from` to i passes the test.
-pub record Scanning (p : ℕ → Bool) (s : List ℕ) (from i : ℕ) : Type 0 where
-  pub few : i ≤ length s
-  pub is : from + first_index p (drop from s) ≡ i + first_index p (drop i s)
-
-pub scan_none : (p : ℕ → Bool) (s : List ℕ) (from : ℕ) → from ≤ length s → Scanning p s from from
-scan_none p s from h = record { few = h; is = refl }
-
-module _ {p : ℕ → Bool} {s : List ℕ} {from i : ℕ} (r : Scanning p s from i) where
-  pub scan_found : i < length s → p (get_or s i 0) ≡ true → Stop p s from i
+module _ (p : ℕ → Bool) where
+  first_is : (s : List ℕ) → first_index p s ≡ position_or_len p s
   unfolding first_index
-  scan_found h t = (sym (r.is ∙ rw (drop-cons s i 0, t) (omega arith)), r.few)
+  first_is = is_position_or_len (first_index p) p refl step
+    where
+      step : (x : ℕ) (xs : List ℕ) → first_index p (x ∷ xs) ≡ cond (p x) 0 (1 + first_index p xs)
+      step x xs = by_cases (p x) (λ t. rw t) (λ t. rw t (omega arith))
 
-  pub scan_more : i < length s → p (get_or s i 0) ≡ false → Scanning p s from (i + 1)
+  first-few : (s : List ℕ) → first_index p s ≤ length s
   unfolding first_index
-  scan_more h t = record { few = omega arith; is = r.is ∙ rw (drop-cons s i 0, t, add-one) (omega arith) }
+  first-few [] = omega arith
+  first-few (x ∷ xs) = by_cases (p x) (λ t. rw t (omega arith)) (λ t. rw t (omega (arith, first-few xs)))
 
-  pub scan_all : length s ≤ i → Stop p s from i
-  unfolding first_index
-  scan_all h = (sym (r.is ∙ rw (drop_of_length-le s {i = i} h) (omega arith)), r.few)
+  at_first : (b : Bool) (m l : ℕ) {n : ℕ} → ltb m l ≡ b → Some n ≡ cond b (Some m) None → (m ≡ n) × (m < l)
+  at_first true m l t e = (cc, ltb-true m l t)
+  at_first false m l t e = absurd (cc)
+
+  past_all : (b : Bool) (m l : ℕ) → m ≤ l → ltb m l ≡ b → None ≡ cond b (Some m) None → m ≡ l
+  past_all true m l h t e = absurd (cc)
+  past_all false m l h t e = omega (arith, ltb-false m l t)
+
+  module _ (s : List ℕ) where
+    -- A place is answered where it is the first, none where there is none.
+    pub is_first : {n : ℕ} → Some n ≡ position p s → (first_index p s ≡ n) × (n < length s)
+    is_first {n} e =
+        let f : Some n ≡ cond (ltb (first_index p s) (length s)) (Some (first_index p s)) None = rw (first_is s) e in
+        let g = at_first (ltb (first_index p s) (length s)) (first_index p s) (length s) refl f in
+        (g.0, omega arith)
+
+    pub no_first : None ≡ position p s → first_index p s ≡ length s
+    no_first e =
+        let f : None ≡ cond (ltb (first_index p s) (length s)) (Some (first_index p s)) None = rw (first_is s) e in
+        past_all (ltb (first_index p s) (length s)) (first_index p s) (length s) (first-few s) refl f
 
 -- ---- Lines
 
 -- A line up to its first comment.
-pub comment_at : (l : List ℕ) {n : ℕ} → n ≡ 0 + first_index starts_comment l → take n l ≡ uncommented l
-unfolding uncommented
-comment_at l {n} e = let f : n ≡ first_index starts_comment l = omega arith in rw f
+module _ (l : List ℕ) where
+  pub comment_at : {n : ℕ} → Some n ≡ position starts_comment l → take n l ≡ uncommented l
+  unfolding uncommented
+  comment_at e = rw (is_first starts_comment l e).0
+
+  pub no_comment : None ≡ position starts_comment l → l ≡ uncommented l
+  unfolding uncommented
+  no_comment e = rw (no_first starts_comment l e, take-length)
 
 pub parted-none : parted [] ≡ []
 unfolding parted
@@ -107,81 +125,74 @@ parted-whole (b ∷ bs) t =
     (by_cases (ends_line b) (λ e. rw e) (λ e. rw e (onto-append b (parted (take m bs)) (parted (drop m bs ++ t)) some))))
     (λ g. rw g (by_cases (ends_line b) (λ e. rw e (rw e)) (λ e. rw e (rw e))))
 
--- ---- The last end of a line, looked for from the end
+-- ---- The last end of a line
 
-ends_hit : (xs : List ℕ) (b : ℕ) → ends_line b ≡ true → whole_lines (xs ++ (b ∷ [])) ≡ suc (length xs)
+no_end : (s : List ℕ) → ((k : ℕ) → k < length s → get_or s k 0 ≡ 10 → ⊥) → 0 ≡ whole_lines s
 unfolding whole_lines
-ends_hit [] b e = rw e
-ends_hit (x ∷ xs) b e = rw (ends_hit xs b e, lt-ltb 0 (suc (length xs)) (omega arith))
+no_end [] h = refl
+no_end (b ∷ bs) h = rw (← no_end bs (λ k l. h (suc k) (omega arith)), ne_eqb b 10 (h 0 (omega arith)))
 
-ends_miss : (xs : List ℕ) (b : ℕ) → ends_line b ≡ false → whole_lines (xs ++ (b ∷ [])) ≡ whole_lines xs
+-- The last end of a line ends the whole lines.
+pub ending_none : (s : List ℕ) → ((k : ℕ) → k < length s → get_or s k 0 ≡ 10 → ⊥) → (0 ≡ whole_lines s) × (0 ≤ length s)
+ending_none s h = (no_end s h, omega arith)
+
+last_at : (s : List ℕ) (i : ℕ) → i < length s → get_or s i 0 ≡ 10 → ((k : ℕ) → i < k → k < length s → get_or s k 0 ≡ 10 → ⊥) → i + 1 ≡ whole_lines s
 unfolding whole_lines
-ends_miss [] b e = rw e
-ends_miss (x ∷ xs) b e = rw (ends_miss xs b e)
+last_at [] i l e h = absurd (omega arith)
+last_at (b ∷ bs) zero l e h = rw (← no_end bs (λ k l. h (suc k) (omega arith) (omega arith)), eq-eqb b 10 e)
+last_at (b ∷ bs) (suc i) l e h =
+    let r = last_at bs i (omega arith) e (λ k m n. h (suc k) (omega arith) (omega arith)) in
+    rw (← r, lt-ltb 0 (i + 1) (omega arith)) (omega arith)
 
--- none ends behind the first n bytes
-pub record Ending (s : List ℕ) (n : ℕ) : Type 0 where
-  pub few : n ≤ length s
-  pub is : whole_lines s ≡ whole_lines (take n s)
-
-pub ending_none : (s : List ℕ) → Ending s (length s)
-ending_none s = record { few = omega arith; is = ap whole_lines (sym (take-length s)) }
-
-module _ {s : List ℕ} {n : ℕ} (r : Ending s n) (i : ℕ) (h : n ≡ suc i) where
-  pub ending_found : get_or s i 0 ≡ 10 → (n ≡ whole_lines s) × (n ≤ length s)
-  ending_found e =
-      let k : i < length s = omega (arith, r.few) in
-      let t = length-take-le i s (omega arith) in
-      (h ∙ ap suc (sym t) ∙ sym (r.is ∙ rw (h, take-suc s i 0 k) (ends_hit (take i s) (get_or s i 0) (eq-eqb (get_or s i 0) 10 e))), r.few)
-
-  pub ending_more : (get_or s i 0 ≡ 10 → ⊥) → Ending s i
-  ending_more e =
-      let k : i < length s = omega (arith, r.few) in
-      record { few = omega arith; is = r.is ∙ rw (h, take-suc s i 0 k) (ends_miss (take i s) (get_or s i 0) (ne_eqb (get_or s i 0) 10 e)) }
-
-pub ending_all : {s : List ℕ} {n : ℕ} → Ending s n → n ≤ 0 → (0 ≡ whole_lines s) × (0 ≤ length s)
-unfolding whole_lines
-ending_all {s} {n} r h = let z : n ≡ 0 = omega arith in (sym (r.is ∙ rw z), omega arith)
+pub ending_at : (s : List ℕ) (i : ℕ) → i < length s → get_or s i 0 ≡ 10 → ((k : ℕ) → i < k → k < length s → get_or s k 0 ≡ 10 → ⊥) → (i + 1 ≡ whole_lines s) × (i + 1 ≤ length s)
+ending_at s i l e h = (last_at s i l e h, omega arith)
 
 pub lines_next : (s : List ℕ) → (0 < length s) → lines_of s ≡ line_of s ∷ lines_of (lines_after s)
 unfolding lines_of line_of
 lines_next s h = rw (parted-next s h)
 
--- Past the end there is no line.
-module _ (s : List ℕ) (at : ℕ) (h : length s ≤ at) where
-  pub line-none : [] ≡ whole_line (drop at s)
-  unfolding first_index
-  line-none = rw (drop_of_length-le s {i = at} h)
+-- What a slice from a place on has.
+pub rest_from : (s : List ℕ) (n : ℕ) → take (length s - n) (drop n s) ≡ drop n s
+rest_from s n = rw (← length-drop n s, take-length)
 
-  pub next-none : drop (length s) s ≡ lines_after (drop at s)
-  unfolding lines_after first_index
-  next-none = rw (drop_of_length-le s {i = at} h, drop-length)
+-- From the end on there is no line.
+drop_min : (s : List ℕ) (at : ℕ) → drop (min at (length s)) s ≡ drop at s
+drop_min s at =
+    by_cases (ltb at (length s))
+    (λ t. let h = ltb-true at (length s) t in let e : min at (length s) ≡ at = omega arith in rw e)
+    (λ t. let h = ltb-false at (length s) t in let e : min at (length s) ≡ length s = omega arith in
+    rw (e, drop-length, drop_of_length-le s {i = at} h))
 
--- A line and where it ends.
-module _ (s : List ℕ) (at : ℕ) {end : ℕ} (e : Stop ends_line s at end) where
-  pub line-some : take (end - at) (drop at s) ≡ whole_line (drop at s)
-  line-some = let f : end - at ≡ first_index ends_line (drop at s) = omega arith in rw f
+-- A line from here on, where the place is the end at most.
+module _ (s : List ℕ) (at : ℕ) {m : ℕ} (h : m ≡ min at (length s)) where
+  here : take (length s - m) (drop m s) ≡ drop at s
+  here = rest_from s m ∙ rw h (drop_min s at)
 
-  pub next-some : drop (end + 1) s ≡ lines_after (drop at s)
+  pub line-some : {n : ℕ} → Some n ≡ position ends_line (take (length s - m) (drop m s)) → take n (take (length s - m) (drop m s)) ≡ whole_line (drop at s)
+  line-some {n} e = ap (λ l. take n l) here ∙ rw (is_first ends_line (drop at s) (e ∙ ap (position ends_line) here)).0
+
+  pub line-none : None ≡ position ends_line (take (length s - m) (drop m s)) → take (length s - m) (drop m s) ≡ whole_line (drop at s)
+  line-none e = here ∙ rw (no_first ends_line (drop at s) (e ∙ ap (position ends_line) here), take-length)
+
+pub next-none : (s : List ℕ) (at : ℕ) → length s ≤ at → drop (length s) s ≡ lines_after (drop at s)
+unfolding lines_after first_index
+next-none s at h = rw (drop_of_length-le s {i = at} h, drop-length)
+
+-- Where the line after it starts.
+module _ (s : List ℕ) (at : ℕ) where
+  pub next-some : {n : ℕ} → Some n ≡ position ends_line (drop at s) → drop (at + n + 1) s ≡ lines_after (drop at s)
   unfolding lines_after
-  next-some =
-      let f : end + 1 ≡ at + suc (first_index ends_line (drop at s)) = omega arith in
-      rw f (sym (drop-drop (suc (first_index ends_line (drop at s))) at s))
+  next-some {n} e =
+      let f : at + n + 1 ≡ at + suc n = omega arith in
+      rw (is_first ends_line (drop at s) e).0 (rw f (sym (drop-drop (suc n) at s)))
 
-  pub next_last : length s ≤ end → drop end s ≡ lines_after (drop at s)
-  next_last h = drop_of_length-le s {i = end} h ∙ sym (drop_of_length-le s {i = end + 1} (omega arith)) ∙ next-some
+  pub next_last : None ≡ position ends_line (drop at s) → drop (length s) s ≡ lines_after (drop at s)
+  unfolding lines_after
+  next_last e =
+      rw (no_first ends_line (drop at s) e, drop-length)
+      (sym (drop_of_length-le (drop at s) {i = suc (length (drop at s))} (omega arith)))
 
 -- ---- Words
-
-beq_pick : (r blank : Bool) → pick blank r (not r) ≡ beq r blank
-beq_pick true true = refl
-beq_pick true false = refl
-beq_pick false true = refl
-beq_pick false false = refl
-
--- The test of a scan, as the code makes it.
-pub stops-is : (blank : Bool) {r x v : Bool} → r ≡ x → beq r blank ≡ v → pick blank x (not x) ≡ v
-stops-is blank {r} e t = rw (← e) (beq_pick r blank ∙ t)
 
 -- The words that start in the first i bytes of a line.
 pub record Counting (line : List ℕ) (count : ℕ) (apart : Bool) (i : ℕ) : Type 0 where
@@ -206,47 +217,62 @@ module _ {line : List ℕ} {n i : ℕ} {apart : Bool} (r : Counting line n apart
   unfolding words_from
   count-all h = sym (r.is ∙ rw (drop_of_length-le line {i = i} h) (omega arith))
 
--- A word of a line is one of what follows after k words.
-pub record Passing (line : List ℕ) (i at k : ℕ) : Type 0 where
-  pub few : at ≤ length line
-  pub below : k ≤ i
-  pub is : word_from line i ≡ word_from (drop at line) (i - k)
+-- A line from its first letter on, and up to and from its first blank.
+module _ (l : List ℕ) where
+  pub word_at : {n : ℕ} → Some n ≡ position is_letter l → drop n l ≡ from_word l
+  unfolding from_word
+  word_at e = rw (is_first is_letter l e).0
 
-pub pass_none : (line : List ℕ) (i : ℕ) → Passing line i 0 0
-pass_none line i = let e : i - 0 ≡ i = omega arith in record { few = omega arith; below = omega arith; is = rw e }
+  pub no_letter : None ≡ position is_letter l → [] ≡ from_word l
+  unfolding from_word
+  no_letter e = rw (no_first is_letter l e, drop-length)
+
+  module _ {r : List ℕ} (f : r ≡ from_word l) where
+    pub word_before : {n : ℕ} → Some n ≡ position is_blank r → take n r ≡ first_word l
+    unfolding first_word
+    word_before e = rw (← f, (is_first is_blank r e).0)
+
+    pub word_whole : None ≡ position is_blank r → r ≡ first_word l
+    unfolding first_word
+    word_whole e = rw (← f, no_first is_blank r e, take-length)
+
+    pub word_after : {n : ℕ} → Some n ≡ position is_blank r → drop n r ≡ after_word l
+    unfolding after_word
+    word_after e = rw (← f, (is_first is_blank r e).0)
+
+    pub word_last : None ≡ position is_blank r → [] ≡ after_word l
+    unfolding after_word
+    word_last e = rw (← f, no_first is_blank r e, drop-length)
+
+-- A word of a line is one of what follows after k words.
+pub record Passing (line : List ℕ) (i : ℕ) (rest : List ℕ) (k : ℕ) : Type 0 where
+  pub is : word_from line i ≡ word_from rest (i - k)
+
+pub pass_none : (line : List ℕ) (i : ℕ) → Passing line i line 0
+pass_none line i = let e : i - 0 ≡ i = omega arith in record { is = rw e }
 
 word_none : (i : ℕ) → word_from [] i ≡ []
 unfolding word_from first_word after_word from_word first_index
 word_none zero = refl
 word_none (suc i) = word_none i
 
--- The bounds of the first word from here on.
-module _ (line : List ℕ) (at : ℕ) {from to : ℕ} (f : Stop is_letter line at from) (t : Stop is_blank line from to) where
-  word_from_lem : from_word (drop at line) ≡ drop from line
-  unfolding from_word
-  word_from_lem = drop-drop (first_index is_letter (drop at line)) at line ∙ rw (← f.0)
+none_left : (rest : List ℕ) (i : ℕ) → length rest ≡ 0 → rest ≡ word_from rest i
+none_left [] i e = sym (word_none i)
+none_left (b ∷ bs) i e = absurd (omega arith)
 
-  word_after : after_word (drop at line) ≡ drop to line
-  unfolding after_word
-  word_after = rw word_from_lem (drop-drop (first_index is_blank (drop from line)) from line ∙ rw (← t.0))
+module _ {line : List ℕ} {i k : ℕ} {rest : List ℕ} (r : Passing line i rest k) where
+  pub pass_end : length rest ≡ 0 → rest ≡ word_from line i
+  pass_end e = none_left rest (i - k) e ∙ sym r.is
 
-  word_first : first_word (drop at line) ≡ take (to - from) (drop from line)
-  unfolding first_word
-  word_first = let e : first_index is_blank (drop from line) ≡ to - from = omega arith in rw (word_from_lem, e)
-
-module _ {line : List ℕ} {i at k : ℕ} (r : Passing line i at k) where
-  pub pass_end : at ≡ length line → [] ≡ word_from line i
-  pass_end e = sym (r.is ∙ rw (e, drop-length) (word_none (i - k)))
-
-  pub pass_more : {from to : ℕ} → Stop is_letter line at from → Stop is_blank line from to → k < i → Passing line i to (k + 1)
+  pub pass_more : {after : List ℕ} → after ≡ after_word rest → k < i → Passing line i after (k + 1)
   unfolding word_from
-  pass_more {from} {to} f t h =
+  pass_more {after} f h =
       let e : i - k ≡ suc (i - (k + 1)) = omega arith in
-      record { few = t.1; below = omega arith; is = r.is ∙ rw e (ap (λ (l : List ℕ). word_from l (i - (k + 1))) (word_after line at f t)) }
+      record { is = r.is ∙ rw (e, f) }
 
-  pub pass_all : {from to : ℕ} → Stop is_letter line at from → Stop is_blank line from to → i ≤ k → take (to - from) (drop from line) ≡ word_from line i
+  pub pass_all : {first : List ℕ} → first ≡ first_word rest → i ≤ k → first ≡ word_from line i
   unfolding word_from
-  pass_all {from} {to} f t h = let e : i - k ≡ 0 = omega arith in sym (r.is ∙ rw e (word_first line at f t))
+  pass_all {first} f h = let e : i - k ≡ 0 = omega arith in f ∙ sym (r.is ∙ rw e)
 
 -- A word is no longer than its line.
 pub word_short : (l : List ℕ) (i : ℕ) → length (word_from l i) ≤ length l

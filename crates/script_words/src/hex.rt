@@ -1,78 +1,47 @@
 // Data, two hexadecimal digits a byte; `-` for none.
 ghost use Rattle.std.specs.Prelude.{◌≡◌, ◌+◌, ◌<◌, length, leb};
+ghost use Rattle.std.specs.List.{list_all};
+ghost use Rattle.std.specs.Char.{is_ascii_hexdigit};
 ghost use Rattle.layout.specs.Choice.{pick};
 ghost use Rattle.layout.specs.Puts.{put_at};
-ghost use Rattle.script_words.specs.Data.{digit_of, bytes_said, is_digit, two_by_two, is_data};
+ghost use Rattle.script_words.specs.Data.{digit_of, bytes_said, two_by_two, is_data};
 
 use layout::fields::inside;
 
-fn is_digit(byte: u8) -> bool
-    ensures { result ≡ is_digit byte }
-{
-    match byte {
-        48..=57 => true,
-        65..=70 => true,
-        97..=102 => true,
-        _ => false,
-    }
-}
-
 // A digit's value, 0 where it is none.
+#[tactic(auto, unfolding(crate::specs::Data::digit_of))]
 fn digit(byte: u8) -> u8
     ensures { (result ≡ digit_of byte) × (result < 16) }
 {
-    if byte < 48 {
-        return 0;
+    match byte {
+        b'0'..=b'9' => byte - b'0',
+        b'A'..=b'F' => byte - b'A' + 10,
+        b'a'..=b'f' => byte - b'a' + 10,
+        _ => 0,
     }
-    if byte < 58 {
-        return byte - 48;
-    }
-    if byte < 65 {
-        return 0;
-    }
-    if byte < 71 {
-        return byte - 55;
-    }
-    if byte < 97 {
-        return 0;
-    }
-    if byte < 103 {
-        return byte - 87;
-    }
-    0
+}
+
+fn all_digits(word: &[u8]) -> bool
+    ensures { result ≡ list_all is_ascii_hexdigit word.now }
+{
+    word.iter().all(|b| b.is_ascii_hexdigit())
 }
 
 // Digits two by two.
 fn two_by_two(word: &[u8]) -> bool
     ensures { result ≡ two_by_two word.now }
 {
-    if word.len() % 2 == 1 {
-        return false;
-    }
-    let n = word.len() / 2;
-    let mut j: usize = 0;
-    while j < n {
-        if !is_digit(word[2 * j]) {
-            return false;
-        }
-        if !is_digit(word[2 * j + 1]) {
-            return false;
-        }
-        j += 1;
-    }
-    true
+    word.len() % 2 == 0 && all_digits(word)
 }
 
 pub fn is_data(word: &[u8]) -> bool
     ensures { result ≡ is_data word.now }
 {
-    if word.len() == 0 {
-        return false;
+    match word {
+        [] => false,
+        [letter] => *letter == b'-',
+        _ => two_by_two(word),
     }
-    if word.len() == 1 {
-        return word[0] == b'-';
-    }
-    two_by_two(word)
 }
 
 // Puts the bytes that a word of data says, and answers how many: nothing where they do not fit.
@@ -82,10 +51,8 @@ pub fn put_data(out: &mut [u8], at: usize, word: &[u8]) -> usize
 {
     let n = word.len() / 2;
     if inside(out.len(), at, n) {
-        let mut j: usize = 0;
-        while j < n {
+        for j in 0..n {
             out[at + j] = 16 * digit(word[2 * j]) + digit(word[2 * j + 1]);
-            j += 1;
         }
         return n;
     }

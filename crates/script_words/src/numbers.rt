@@ -1,107 +1,61 @@
-// Decimals within their type's range.
-ghost use Rattle.std.specs.Prelude.{◌≡◌, ◌≤◌};
-ghost use Rattle.script_words.specs.Numbers.{no_number, decimal_of, is_decimal, below0, small_of};
-
-// 0 where the word is no number or over the range.
-#[derive(Clone, Copy)]
-pub struct Number {
-    pub good: bool,
-    pub value: u64,
-}
-
-#[derive(Clone, Copy)]
-pub struct Small {
-    pub good: bool,
-    pub value: i16,
-}
-
-fn bad() -> Number
-    ensures { result ≡ no_number }
-{
-    Number {
-        good: false,
-        value: 0,
-    }
-}
+// Decimals within their type's range: `None` where a word is no number or over the range.
+ghost use Rattle.std.specs.Prelude.{◌≡◌, ◌≤◌, IfSome};
+ghost use Rattle.std.specs.List.{list_all};
+ghost use Rattle.std.specs.Char.{is_ascii_digit};
+ghost use Rattle.script_words.specs.Numbers.{decimal_of, is_decimal, under, small_of};
 
 // A decimal of at most max.
-pub fn unsigned(word: &[u8], max: u64) -> Number
+pub fn unsigned(word: &[u8], max: u64) -> Option<u64>
     ensures value { result ≡ decimal_of max word.now }
-    ensures value_le_max { result.value ≤ max }
+    ensures value_le_max { IfSome result (λ n. n ≤ max) }
 {
-    if word.len() == 0 {
-        return bad();
+    if word.is_empty() {
+        return None;
     }
     let mut value: u64 = 0;
-    let mut i: usize = 0;
-    while i < word.len() {
-        let byte = word[i];
-        if byte < 48 {
-            return bad();
+    for byte in word {
+        let digit = match *byte {
+            b'0'..=b'9' => (*byte - b'0') as u64,
+            _ => return None,
+        };
+        value = value.checked_mul(10)?.checked_add(digit)?;
+        if value > max {
+            return None;
         }
-        if byte > 57 {
-            return bad();
-        }
-        let digit = (byte - 48) as u64;
-        if digit > max {
-            return bad();
-        }
-        if value > (max - digit) / 10 {
-            return bad();
-        }
-        value = 10 * value + digit;
-        i += 1;
     }
-    Number { good: true, value }
+    Some(value)
+}
+
+// Digits alone.
+fn all_digits(word: &[u8]) -> bool
+    ensures { result ≡ list_all is_ascii_digit word.now }
+{
+    word.iter().all(|b| b.is_ascii_digit())
 }
 
 // Digits alone, one at least: a decimal of any length.
 pub fn is_decimal(word: &[u8]) -> bool
     ensures { result ≡ is_decimal word.now }
 {
-    if word.len() == 0 {
-        return false;
-    }
-    let mut i: usize = 0;
-    while i < word.len() {
-        if word[i] < 48 {
-            return false;
-        }
-        if word[i] > 57 {
-            return false;
-        }
-        i += 1;
-    }
-    true
+    !word.is_empty() && all_digits(word)
 }
 
-// A negative number: the one below it, turned over.
-fn negative(n: Number) -> Small
-    requires { n.value ≤ 32768 }
-    ensures { result ≡ below0 n }
+// The number n below 0; 0 has no sign.
+fn negative(n: u64) -> i16
+    requires { n ≤ 32768 }
+    ensures { result ≡ under n }
 {
-    let good = n.good;
-    if n.value == 0 {
-        return Small { good, value: 0 };
-    }
-    Small {
-        good,
-        value: !((n.value - 1) as i16),
-    }
+    -(n as i32) as i16
 }
+
+const MINUS: u8 = b'-';
 
 // A decimal of -32,768 to 32,767.
-pub fn signed(word: &[u8]) -> Small
+pub fn signed(word: &[u8]) -> Option<i16>
     ensures { result ≡ small_of word.now }
 {
-    if word.len() > 0 {
-        if word[0] == b'-' {
-            return negative(unsigned(&word[1..], 32768));
-        }
-    }
-    let n = unsigned(word, 32767);
-    Small {
-        good: n.good,
-        value: n.value as i16,
+    match word {
+        [sign, digits @ ..] if *sign == MINUS => Some(negative(unsigned(digits, 32768)?)),
+        _ => Some(unsigned(word, 32767)? as i16),
     }
 }

@@ -1,40 +1,34 @@
 // Lines of a text and their words.
-ghost use Rattle.std.specs.Prelude.{◌≡◌, ◌+◌, ◌<◌, ◌≤◌, length, drop, eqb};
-ghost use Rattle.layout.specs.Lists.{first_index};
-ghost use Rattle.script_words.specs.Texts.{is_blank, stops, uncommented, whole_line, line_of, lines_after, whole_lines, word_from, word_count};
+ghost use Rattle.std.specs.Prelude.{◌≡◌, ◌<◌, ◌≤◌, ◌+◌, ◌≢◌, ℕ, length, drop, eqb, slice_index, MatchOption};
+ghost use Rattle.std.specs.List.{position};
+ghost use Rattle.script_words.specs.Texts.{is_blank, is_letter, uncommented, whole_line, line_of, lines_after, whole_lines, from_word, first_word, after_word, word_from, word_count};
 
-// The first place of a byte from here on, or the end.
-fn find(s: &[u8], from: usize, byte: u8) -> usize
-    requires { from ≤ length s.now }
-    ensures { (result ≡ from + first_index (λ b. eqb b byte) (drop from s.now)) × (result ≤ length s.now) }
+// The first place of a byte.
+fn find(s: &[u8], byte: u8) -> Option<usize>
+    ensures { result ≡ position (λ b. eqb b byte) s.now }
 {
-    let mut i = from;
-    while i < s.len() {
-        if s[i] == byte {
-            return i;
-        }
-        i += 1;
-    }
-    i
+    s.iter().position(|b| *b == byte)
 }
 
 // A line before its comment.
 fn without_comment<'a>(line: &'a [u8]) -> &'a [u8]
     ensures { result.now ≡ uncommented line.now }
 {
-    let n = find(line, 0, b'#');
-    &line[..n]
+    match find(line, b'#') {
+        Some(n) => &line[..n],
+        None => line,
+    }
 }
 
 // The line that starts here, with its comment.
 pub fn whole_line_at<'a>(s: &'a [u8], at: usize) -> &'a [u8]
     ensures { result.now ≡ whole_line (drop at s.now) }
 {
-    if at >= s.len() {
-        return &s[..0];
+    let rest = &s[at.min(s.len())..];
+    match find(rest, b'\n') {
+        Some(n) => &rest[..n],
+        None => rest,
     }
-    let end = find(s, at, b'\n');
-    &s[at..end]
 }
 
 // The same without it.
@@ -52,70 +46,91 @@ pub fn next_line(s: &[u8], at: usize) -> usize
     if at >= s.len() {
         return s.len();
     }
-    let end = find(s, at, b'\n');
-    if end < s.len() {
-        return end + 1;
+    match find(&s[at..], b'\n') {
+        Some(n) => at + n + 1,
+        None => s.len(),
     }
-    end
+}
+
+// The last end of a line.
+fn last_end(s: &[u8]) -> Option<usize>
+    ensures { MatchOption result ((k : ℕ) → k < length s.now → slice_index s.now k ≢ 10)
+        (λ i. (i < length s.now) × (slice_index s.now i ≡ 10) × ((k : ℕ) → i < k → k < length s.now → slice_index s.now k ≢ 10)) }
+{
+    s.iter().rposition(|b| *b == b'\n')
 }
 
 // Where the last line that ends in a text ends; 0 where none does.
 pub fn whole_lines(s: &[u8]) -> usize
     ensures { (result ≡ whole_lines s.now) × (result ≤ length s.now) }
 {
-    let mut n = s.len();
-    while n > 0 {
-        if s[n - 1] == b'\n' {
-            return n;
-        }
-        n -= 1;
+    match last_end(s) {
+        Some(i) => i + 1,
+        None => 0,
     }
-    0
 }
 
 // Blank, tab and carriage return stand between words.
 fn is_blank(byte: u8) -> bool
     ensures { result ≡ is_blank byte }
 {
-    match byte {
-        b' ' => true,
-        b'\t' => true,
-        b'\r' => true,
-        _ => false,
+    matches!(byte, b' ' | b'\t' | b'\r')
+}
+
+fn letter_at(line: &[u8]) -> Option<usize>
+    ensures { result ≡ position is_letter line.now }
+{
+    line.iter().position(|b| !is_blank(*b))
+}
+
+fn blank_at(line: &[u8]) -> Option<usize>
+    ensures { result ≡ position is_blank line.now }
+{
+    line.iter().position(|b| is_blank(*b))
+}
+
+// From the first word of a line on.
+fn from_word<'a>(line: &'a [u8]) -> &'a [u8]
+    ensures { result.now ≡ from_word line.now }
+{
+    match letter_at(line) {
+        Some(n) => &line[n..],
+        None => &[],
     }
 }
 
-// The first place from here on whose byte is blank, or isn't; or the end.
-fn stop_at(line: &[u8], from: usize, blank: bool) -> usize
-    requires { from ≤ length line.now }
-    ensures { (result ≡ from + first_index (stops blank) (drop from line.now)) × (result ≤ length line.now) }
+fn first_word<'a>(line: &'a [u8]) -> &'a [u8]
+    ensures { result.now ≡ first_word line.now }
 {
-    let mut i = from;
-    while i < line.len() {
-        if is_blank(line[i]) == blank {
-            return i;
-        }
-        i += 1;
+    let tail = from_word(line);
+    match blank_at(tail) {
+        Some(n) => &tail[..n],
+        None => tail,
     }
-    i
+}
+
+fn after_word<'a>(line: &'a [u8]) -> &'a [u8]
+    ensures { result.now ≡ after_word line.now }
+{
+    let tail = from_word(line);
+    match blank_at(tail) {
+        Some(n) => &tail[n..],
+        None => &[],
+    }
 }
 
 // A word of a line, counted from 0; empty where there is none.
 pub fn word<'a>(line: &'a [u8], i: usize) -> &'a [u8]
     ensures { result.now ≡ word_from line.now i }
 {
-    let mut at: usize = 0;
-    let mut k: usize = 0;
-    while k < i {
-        if at == line.len() {
-            return &line[..0];
+    let mut rest = line;
+    for _ in 0..i {
+        if rest.is_empty() {
+            return rest;
         }
-        at = stop_at(line, stop_at(line, at, false), true);
-        k += 1;
+        rest = after_word(rest);
     }
-    let from = stop_at(line, at, false);
-    let to = stop_at(line, from, true);
-    &line[from..to]
+    first_word(rest)
 }
 
 // How many words a line has.
@@ -124,16 +139,12 @@ pub fn word_count(line: &[u8]) -> usize
 {
     let mut count: usize = 0;
     let mut apart = true;
-    let mut i: usize = 0;
-    while i < line.len() {
-        let blank = is_blank(line[i]);
-        if !blank {
-            if apart {
-                count += 1;
-            }
+    for byte in line {
+        let blank = is_blank(*byte);
+        if !blank && apart {
+            count += 1;
         }
         apart = blank;
-        i += 1;
     }
     count
 }

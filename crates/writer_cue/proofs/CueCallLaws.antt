@@ -1,140 +1,89 @@
--- For the proof of cue: start and range length, the cue at its place, the answers in their order.
-use Prim.Native.Nat.{ℕ, zero, suc, ◌+◌, ◌-◌, ◌<◌, ◌≤◌}
-use mathlib.Core.Path.{◌≡◌, refl, ap, sym, ◌∙◌}
-use mathlib.Core.Bool.{Bool, true, false}
-use mathlib.Core.List.{List, [], ◌∷◌, ◌++◌, append_assoc}
-use native.Mathlib.Omega.{arith}
-use native.Mathlib.Nat.{sub-zero}
-use borrow.Author.Tests.{lt-ltb, le-ltb, le-leb, lt-leb, ne_eqb, leb-false}
-use lib.Dec.{ltb, eqb}
-use lib.ListN.{length, take, drop, length-take}
-use lib.Seq.{take-take, take-nil}
+-- For the proof of cue: the cue at its place, and what the call leaves.
+use Rattle.std.proofs.Common.{◌≡◌, ℕ, zero, suc, ◌+◌, ◌-◌, ◌<◌, ◌≤◌, Bool, true, false, Option, List, [], ◌∷◌, ◌++◌, length, take, drop, refl, sym, ap, ◌∙◌, append_assoc, arith}
+use Rattle.std.proofs.Math.Nat.{sub-zero}
+use Rattle.std.proofs.Math.ListN.{length-take}
+use Rattle.std.proofs.Math.Seq.{take-take, take-nil}
+use Rattle.std.specs.Prelude.{ltb}
+use borrow.Author.Tests.{leb-false, ltb-false}
+use Rattle.std.specs.List.{position, position_or_len}
+use Rattle.std.specs.Option.{unwrap_or}
+use Rattle.std.proofs.lemmas.List.Recursion.{is_position_or_len}
+use Rattle.layout.specs.Answers.{number_of}
 use Rattle.layout.specs.Choice.{◌or◌}
 use Rattle.layout.specs.Lists.{first_index}
-use Rattle.layout.specs.Refusals.{start_limit, first_due, cue_limit}
+use Rattle.layout.specs.Refusals.{start_limit, cue_limit}
+use Rattle.layout.specs.declared.refusal.Refusal.{Refusal}
 use Rattle.layout.proofs.Cases.{by_cases}
 use Rattle.writer.specs.Loading.{zero_range, before, has, insert, cue_order, cue_refusal}
-use Rattle.writer.specs.declared.CueKind.{CueKind}
-use Rattle.writer.specs.declared.CueKind.TheVariants.{Point, Loop, Range}
 use Rattle.writer.specs.declared.Cue.{Cue}
 use Rattle.writer.specs.declared.HpsWriter.{HpsWriter}
-use Rattle.writer.specs.declared.Reply.TheVariants.{Refused, NoWrite}
-use Rattle.writer.specs.declared.Called.{Called}
-use Rattle.writer.specs.Calls.{held, with_table, after_cue, cue_of, called, Good}
-use Rattle.writer.proofs.DueLaws.{passed_cue}
-use Rattle.writer.proofs.GoodLaws.{cue_kept_lem}
-use Rattle.writer_cue.specs.CueOrder.{found_in}
-use Rattle.writer_cue.specs.declared.Found.{Found}
-
--- ---- Start and range length
-
-module _ (s : ℕ) (k : CueKind) where
-  pub late : start_limit < s → true ≡ (ltb start_limit s or zero_range k)
-  late h = rw (lt-ltb start_limit s h)
-
-  pub point : s ≤ start_limit → k ≡ Point → false ≡ (ltb start_limit s or zero_range k)
-  point h e = simp (le-ltb start_limit s h, e)
-
-  pub loop : s ≤ start_limit → k ≡ Loop → false ≡ (ltb start_limit s or zero_range k)
-  loop h e = simp (le-ltb start_limit s h, e)
-
-  pub range : (n : ℕ) → s ≤ start_limit → k ≡ Range n → eqb n 0 ≡ (ltb start_limit s or zero_range k)
-  range n h e = simp (le-ltb start_limit s h, e)
+use Rattle.writer.specs.Calls.{Handed, refuses, accepts, held, with_table, after_cue, cue_of, Good}
+use Rattle.writer.proofs.DueLaws.{passed_cue, is_refused, is_accepted}
 
 -- ---- The cue at its place
 
-place-most : (c : Cue) (cs : List Cue) → first_index (before c) cs ≤ length cs
+place_most : (c : Cue) (cs : List Cue) → first_index (before c) cs ≤ length cs
 unfolding first_index
-place-most c [] = omega arith
-place-most c (d ∷ ds) = by_cases (before c d) (λ q. rw q (omega arith)) (λ q. rw q (omega (arith, place-most c ds)))
+place_most c [] = omega arith
+place_most c (d ∷ ds) = by_cases (before c d) (λ q. rw q (omega arith)) (λ q. rw q (omega (arith, place_most c ds)))
+
+is_first : (c : Cue) (cs : List Cue) → first_index (before c) cs ≡ position_or_len (before c) cs
+unfolding first_index
+is_first c cs = is_position_or_len (first_index (before c)) (before c) refl (λ d ds. by_cases (before c d) (λ q. rw q) (λ q. rw q (omega arith))) cs
+
+-- where a cue goes: the first index whose cue it comes before, else past them all
+pub place_is : (c : Cue) (cs : List Cue) {o : Option ℕ} {n p : ℕ} → o ≡ position (before c) cs → p ≡ unwrap_or o n → n ≡ length cs → p ≡ first_index (before c) cs
+place_is c cs {o} {n} {p} f u e =
+    u ∙ rw (f, is_first c cs)
+    (by_cases (ltb (position_or_len (before c) cs) (length cs)) (λ q. rw q) (λ q. rw q (omega (arith, ltb-false _ _ q, is_first c cs, place_most c cs))))
 
 inserted : (c : Cue) (cs : List Cue) → insert c cs ≡ take (first_index (before c) cs) cs ++ (c ∷ drop (first_index (before c) cs) cs)
 unfolding first_index insert
 inserted c [] = refl
 inserted c (d ∷ ds) = by_cases (before c d) (λ q. rw q) (λ q. rw q (ap (λ (l : List Cue). d ∷ l) (inserted c ds)))
 
-drop-take : (i n : ℕ) (t : List Cue) → drop i (take n t) ≡ take (n - i) (drop i t)
-drop-take zero n t = rw sub-zero
-drop-take (suc i) zero t = let z : 0 - suc i ≡ 0 = omega arith in rw z
-drop-take (suc i) (suc n) [] = sym (take-nil (suc n - suc i))
-drop-take (suc i) (suc n) (x ∷ t) = let z : suc n - suc i ≡ n - i = omega arith in rw z (drop-take i n t)
+drop_take : (i n : ℕ) (t : List Cue) → drop i (take n t) ≡ take (n - i) (drop i t)
+drop_take zero n t = rw sub-zero
+drop_take (suc i) zero t = let z : 0 - suc i ≡ 0 = omega arith in rw z
+drop_take (suc i) (suc n) [] = sym (take-nil (suc n - suc i))
+drop_take (suc i) (suc n) (x ∷ t) = let z : suc n - suc i ≡ n - i = omega arith in rw z (drop_take i n t)
 
--- ---- The first number due
+-- ---- The call
 
-module _ (n : ℕ) (bad equal : Bool) (k : ℕ) where
-  pub cue_21 : 0 < n → 21 ≡ cue_order n bad equal k
-  unfolding first_due
-  cue_21 h = rw (lt-ltb 0 n h)
+module _ (w : HpsWriter) (c : Cue) (g : Good w) where
+  pub held_count : length (held w) ≡ w.table.count
+  held_count = length-take w.table.count w.table.cues ∙ omega (arith, g.few, g.table)
 
-  module _ (none : n ≤ 0) where
-    pub cue_8 : bad ≡ true → 8 ≡ cue_order n bad equal k
-    unfolding first_due
-    cue_8 h = rw (le-ltb 0 n none, h)
+  module _ {i : ℕ} (ei : i ≡ first_index (before c) (held w)) where
+    pub put_inside : i ≤ w.table.count
+    put_inside = omega (arith, ei, place_most c (held w), held_count)
 
-    pub cue_equal : bad ≡ false → equal ≡ true → 0 ≡ cue_order n bad equal k
-    unfolding first_due
-    cue_equal b h = rw (le-ltb 0 n none, b, h)
+    pub put_is : {u : List Cue} → u ≡ take i w.table.cues ++ (c ∷ (take (w.table.count - i) (drop i w.table.cues) ++ drop (w.table.count + 1) w.table.cues))
+        → u ≡ insert c (held w) ++ drop (w.table.count + 1) w.table.cues
+    put_is eu =
+        let il : i ≤ w.table.count = put_inside in
+        eu ∙ rw (inserted c (held w), ← ei, take-take i w.table.count w.table.cues il, drop_take i w.table.count w.table.cues) (simp append_assoc)
 
-    pub cue_20 : bad ≡ false → equal ≡ false → cue_limit ≤ k → 20 ≡ cue_order n bad equal k
-    unfolding first_due
-    cue_20 b f h = rw (le-ltb 0 n none, b, f, le-leb cue_limit k h)
+  module _ {b e : Bool} (eb : b ≡ (ltb start_limit c.start or zero_range c.kind)) (ee : e ≡ has c (held w)) where
+    due_is : cue_order w.stream.blocks b e w.table.count ≡ cue_refusal w.stream.blocks (held w) c
+    due_is = rw (eb, ee, held_count)
 
-    pub cue_fine : bad ≡ false → equal ≡ false → k < cue_limit → 0 ≡ cue_order n bad equal k
-    unfolding first_due
-    cue_fine b f h = rw (le-ltb 0 n none, b, f, lt-leb cue_limit k h)
+    pub cue_refused : (x : Refusal) → number_of x ≡ cue_order w.stream.blocks b e w.table.count → cue_of w c ≡ refuses w [] (number_of x)
+    unfolding cue_of
+    cue_refused x h = is_refused w (after_cue w c) [] Handed.none x (h ∙ due_is)
 
--- ---- The answers
+    module _ (h : 0 ≡ cue_order w.stream.blocks b e w.table.count) where
+      pub cue_accepted : cue_of w c ≡ accepts (after_cue w c) [] Handed.none
+      unfolding cue_of
+      cue_accepted = is_accepted w (after_cue w c) [] Handed.none (h ∙ due_is)
 
--- What cue ensures of its result.
-abbrev Answers : HpsWriter → Cue → Called → Type 0
-Answers w c q = (q ≡ called (cue_of w c)) × Good q.writer
-
-held-count : (w : HpsWriter) → Good w → length (held w) ≡ w.table.count
-held-count w g = length-take w.table.count w.table.cues ∙ omega (arith, g.few, g.table)
-
--- none is due, and no equal cue is held
-pub room-left : (n : ℕ) (b f : Bool) (k r : ℕ) → r ≡ cue_order n b f k → r ≡ 0 → f ≡ false → k < cue_limit
-room-left n b f k r e z h = leb-false cue_limit k (rw h at (passed_cue _ _ _ (sym e ∙ z)).no20)
-
-equal_is : (w : HpsWriter) (c : Cue) {f : Found} → f ≡ found_in c (held w) → f.equal ≡ has c (held w)
-equal_is w c e = rw e
-
-due-is : (w : HpsWriter) (c : Cue) → Good w → {b : Bool} {f : Found} {r : ℕ} → b ≡ (ltb start_limit c.start or zero_range c.kind) → f ≡ found_in c (held w)
-    → r ≡ cue_order w.stream.blocks b f.equal w.table.count → r ≡ cue_refusal w.stream.blocks (held w) c
-due-is w c g eb ef er = er ∙ rw (eb, equal_is w c ef, held-count w g)
-
-pub place_inside : (w : HpsWriter) (c : Cue) (f : Found) → f ≡ found_in c (held w) → f.place ≤ w.table.count
-place_inside w c f e = rw e (omega (arith, place-most c (held w), length-take w.table.count w.table.cues))
-
-module _ (w : HpsWriter) (c : Cue) (g : Good w) {q : Called} where
-  and_good : q ≡ called (cue_of w c) → Answers w c q
-  and_good e = (e, rw e (cue_kept_lem w g c))
-
-  refuses_with : (n : ℕ) → q ≡ record { reply = Refused n; writer = w } → cue_refusal w.stream.blocks (held w) c ≡ n → (n ≡ 0 → ⊥) → Answers w c q
-  unfolding cue_of
-  refuses_with n e r h = and_good (e ∙ rw (r, ne_eqb n 0 h))
-
-  accepts_as : (v : HpsWriter) → q ≡ record { reply = NoWrite; writer = v } → cue_refusal w.stream.blocks (held w) c ≡ 0 → v ≡ after_cue w c → Answers w c q
-  unfolding cue_of
-  accepts_as v e r h = and_good (e ∙ rw (r, h))
-
-  module _ {b : Bool} {f : Found} {r : ℕ} (eb : b ≡ (ltb start_limit c.start or zero_range c.kind)) (ef : f ≡ found_in c (held w))
-      (er : r ≡ cue_order w.stream.blocks b f.equal w.table.count) where
-    pub refused_cue : q ≡ record { reply = Refused r; writer = w } → (r ≡ 0 → ⊥) → Answers w c q
-    refused_cue e h = refuses_with r e (sym (due-is w c g eb ef er)) h
-
-    module _ (none : r ≡ 0) where
-      pub equal_cue : q ≡ record { reply = NoWrite; writer = w } → f.equal ≡ true → Answers w c q
+      pub equal_adds_nothing : e ≡ true → after_cue w c ≡ w
       unfolding after_cue
-      equal_cue e h = accepts_as w e (sym (due-is w c g eb ef er) ∙ none) (rw (sym (equal_is w c ef) ∙ h))
+      equal_adds_nothing q = rw (sym ee ∙ q)
 
-      pub new_cue : {u : List Cue} → q ≡ record { reply = NoWrite; writer = with_table w u (w.table.count + 1) } → f.equal ≡ false
-          → u ≡ take f.place w.table.cues ++ (c ∷ (take (w.table.count - f.place) (drop f.place w.table.cues) ++ drop (w.table.count + 1) w.table.cues))
-          → Answers w c q
-      unfolding after_cue
-      new_cue {u} e h eu =
-          let ei : f.place ≡ first_index (before c) (held w) = rw ef in
-          let il : f.place ≤ w.table.count = place_inside w c f ef in
-          let new : u ≡ insert c (held w) ++ drop (w.table.count + 1) w.table.cues =
-          eu ∙ rw (inserted c (held w), ← ei, take-take f.place w.table.count w.table.cues il, drop-take f.place w.table.count w.table.cues) (simp append_assoc) in
-          accepts_as (with_table w u (w.table.count + 1)) e (sym (due-is w c g eb ef er) ∙ none) (rw (sym (equal_is w c ef) ∙ h, new))
+      pub room_left : e ≡ false → w.table.count < cue_limit
+      room_left q = leb-false cue_limit w.table.count (rw q at (passed_cue _ _ _ (sym h)).no20)
+
+    pub new_is_put : e ≡ false → {u : List Cue} → u ≡ insert c (held w) ++ drop (w.table.count + 1) w.table.cues → after_cue w c ≡ with_table w u (w.table.count + 1)
+    unfolding after_cue
+    new_is_put q eu = rw (sym ee ∙ q, eu)

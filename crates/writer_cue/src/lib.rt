@@ -2,104 +2,38 @@
 #![tactic(auto)]
 
 ghost use Rattle.std.specs.Prelude.{◌≡◌, ◌∷◌, ◌++◌, ◌+◌, ◌-◌, ◌<◌, ◌≤◌, take, drop, ltb};
-ghost use Rattle.writer.specs.Loading.{rank, range_length, zero_range, cue_order};
+ghost use Rattle.std.specs.List.{position};
+ghost use Rattle.writer.specs.Loading.{before, has, zero_range, cue_order};
+ghost use Rattle.layout.specs.Answers.{due_number};
 ghost use Rattle.layout.specs.Refusals.{cue_limit, start_limit};
+ghost use Rattle.layout.specs.Lists.{first_index};
 ghost use Rattle.layout.specs.Choice.{◌or◌};
-ghost use Rattle.writer_cue.specs.CueOrder.{number_order, cue_ordering, then_by, found_in};
 ghost use Rattle.writer.specs.Calls.{Good, cue_of, called};
 
 use layout::limits::{CUE_LIMIT, START_LIMIT};
+use layout::refusal::Refusal;
 use writer::{Called, Cue, CueKind, CueTable, HpsWriter, Reply};
 
-fn rank(k: CueKind) -> u64
-    ensures { result ≡ rank k }
+// Cues are ordered by start, kind, range length, name: the order of their fields as they are declared.
+#[tactic(auto, using(crate::proofs::CueTableLaws::is_before))]
+fn comes_before(c: Cue, d: Cue) -> bool
+    ensures { result ≡ before c d }
 {
-    match k {
-        CueKind::Point => 0,
-        CueKind::Loop => 1,
-        CueKind::Range(_) => 2,
-    }
+    c < d
 }
 
-fn range_length(k: CueKind) -> u64
-    ensures { result ≡ range_length k }
+// The first of the cues held that this one comes before.
+fn next_after(held: &[Cue], c: Cue) -> Option<usize>
+    ensures { result ≡ position (before c) held.now }
 {
-    match k {
-        CueKind::Point => 0,
-        CueKind::Loop => 0,
-        CueKind::Range(n) => n,
-    }
+    held.iter().position(|d| comes_before(c, *d))
 }
 
-// How one comes to another in the order of cues.
-#[derive(Clone, Copy)]
-enum Order {
-    Before,
-    Same,
-    After,
-}
-
-fn number_order(x: u64, y: u64) -> Order
-    ensures { result ≡ number_order x y }
+// Whether an equal cue is held.
+fn holds(held: &[Cue], c: Cue) -> bool
+    ensures { result ≡ has c held.now }
 {
-    if x < y {
-        return Order::Before;
-    }
-    if x == y { Order::Same } else { Order::After }
-}
-
-fn then_by(first: Order, rest: Order) -> Order
-    ensures { result ≡ then_by first rest }
-{
-    match first {
-        Order::Before => Order::Before,
-        Order::Same => rest,
-        Order::After => Order::After,
-    }
-}
-
-// Cues are ordered by start, kind, range length, name.
-fn compare(c: Cue, d: Cue) -> Order
-    ensures { result ≡ cue_ordering c d }
-{
-    let ck = c.kind;
-    let dk = d.kind;
-    let starts = number_order(c.start, d.start);
-    let kinds = number_order(rank(ck), rank(dk));
-    let lengths = number_order(range_length(ck), range_length(dk));
-    let names = number_order(c.name as u64, d.name as u64);
-    then_by(starts, then_by(kinds, then_by(lengths, names)))
-}
-
-// Where a cue belongs, and whether an equal one is there.
-#[derive(Clone, Copy)]
-struct Found {
-    place: usize,
-    equal: bool,
-}
-
-// Among the first n of the table: the place is that of the first cue that c comes before, or past them all.
-fn search(t: [Cue; CUE_LIMIT], n: usize, c: Cue) -> Found
-    requires { n ≤ cue_limit }
-    ensures { result ≡ found_in c (take n t) }
-{
-    let mut place = n;
-    let mut equal = false;
-    let mut i = n;
-    while 0 < i {
-        i -= 1;
-        let d = t[i];
-        match compare(c, d) {
-            Order::Before => {
-                place = i;
-            }
-            Order::Same => {
-                equal = true;
-            }
-            Order::After => {}
-        }
-    }
-    Found { place, equal }
+    held.contains(&c)
 }
 
 // The cue at i, and what stood from i to n one place later.
@@ -108,13 +42,8 @@ fn put_in(t: [Cue; CUE_LIMIT], n: usize, i: usize, c: Cue) -> [Cue; CUE_LIMIT]
     ensures { result ≡ take i t ++ (c ∷ (take (n - i) (drop i t) ++ drop (n + 1) t)) }
 {
     let mut u = t;
+    u.copy_within(i..n, i + 1);
     u[i] = c;
-    let mut k = i;
-    while k < n {
-        let d = t[k];
-        k += 1;
-        u[k] = d;
-    }
     u
 }
 
@@ -122,51 +51,24 @@ fn put_in(t: [Cue; CUE_LIMIT], n: usize, i: usize, c: Cue) -> [Cue; CUE_LIMIT]
 fn is_bad(start: u64, kind: CueKind) -> bool
     ensures { result ≡ (ltb start_limit start or zero_range kind) }
 {
-    if start > START_LIMIT {
-        return true;
-    }
-    match kind {
-        CueKind::Point => false,
-        CueKind::Loop => false,
-        CueKind::Range(n) => n == 0,
-    }
+    start > START_LIMIT || kind == CueKind::Range(0)
 }
 
-// The first number due, 0 where none is.
-fn cue_due(blocks: usize, bad: bool, equal: bool, count: usize) -> u32
-    ensures { result ≡ cue_order blocks bad equal count }
+// Why the cue is refused, if it is.
+#[tactic(auto, unfolding(layout::specs::Refusals::first_due))]
+fn cue_due(blocks: usize, bad: bool, equal: bool, count: usize) -> Result<(), Refusal>
+    ensures { due_number result ≡ cue_order blocks bad equal count }
 {
     if blocks > 0 {
-        return 21;
+        return Err(Refusal::AlreadyPushed);
     }
     if bad {
-        return 8;
+        return Err(Refusal::BadCue);
     }
-    if equal {
-        return 0;
+    if !equal && count >= CUE_LIMIT {
+        return Err(Refusal::CueTableFull);
     }
-    if count >= CUE_LIMIT {
-        return 20;
-    }
-    0
-}
-
-fn refused(w: HpsWriter, number: u32) -> Called
-    ensures { result ≡ record { reply = Reply.Refused number; writer = w } }
-{
-    Called {
-        reply: Reply::Refused(number),
-        writer: w,
-    }
-}
-
-fn accepted(next: HpsWriter) -> Called
-    ensures { result ≡ record { reply = Reply.NoWrite; writer = next } }
-{
-    Called {
-        reply: Reply::NoWrite,
-        writer: next,
-    }
+    Ok(())
 }
 
 // Cue: it goes to its place in the table, unless an equal one is there.
@@ -175,20 +77,27 @@ pub fn cue(w: HpsWriter, c: Cue) -> Called
     ensures value { result ≡ called (cue_of w c) }
     ensures good { Good result.writer }
 {
-    let kind = c.kind;
-    let bad = is_bad(c.start, kind);
-    let t = w.table.cues;
     let n = w.table.count;
-    let found = search(t, n, c);
-    let r = cue_due(w.stream.blocks, bad, found.equal, n);
-    if r != 0 {
-        return refused(w, r);
+    let held = &w.table.cues[..n];
+    let bad = is_bad(c.start, c.kind);
+    let equal = holds(held, c);
+    if let Err(refusal) = cue_due(w.stream.blocks, bad, equal, n) {
+        return Called {
+            reply: Reply::Refused(refusal.into()),
+            writer: w,
+        };
     }
-    if found.equal {
-        return accepted(w);
+    if equal {
+        return Called {
+            reply: Reply::NoWrite,
+            writer: w,
+        };
     }
-    let u = put_in(t, n, found.place, c);
-    let count = n + 1;
-    let table = CueTable { cues: u, count };
-    accepted(HpsWriter { table, ..w })
+    let place = next_after(held, c).unwrap_or(n);
+    let cues = put_in(w.table.cues, n, place, c);
+    let table = CueTable { cues, count: n + 1 };
+    Called {
+        reply: Reply::NoWrite,
+        writer: HpsWriter { table, ..w },
+    }
 }

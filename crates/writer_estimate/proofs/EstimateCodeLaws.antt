@@ -5,7 +5,7 @@ use mathlib.Core.List.{List, [], ◌∷◌}
 use native.Mathlib.Omega.{arith}
 use native.Mathlib.Nat.{mul-le-mul}
 use native.Mathlib.Numerals.{add-one}
-use borrow.Author.Tests.{lt-ltb, le-ltb, ne_eqb, ltb-false}
+use borrow.Author.Tests.{le-ltb, eq-eqb, eqb-false, ltb-false}
 use lib.Dec.{eqb, lit<}
 use lib.ListN.{length, get_or, drop, drop_of_length-le}
 use lib.Seq.{drop-cons}
@@ -17,9 +17,10 @@ use Rattle.layout.specs.Sizes.{saturated}
 use Rattle.layout.proofs.Cases.{by_cases, none-due}
 use Rattle.layout.proofs.SizeLaws.{aligned}
 use Rattle.writer.specs.Estimate.{lengths_due, estimate_refusal, estimated, estimate_of}
-use Rattle.writer_estimate.specs.EstimateAnswers.{estimate_reply}
-use Rattle.writer_estimate.specs.declared.EstimateReply.TheVariants.{Refused, Length}
-use Rattle.writer.proofs.BeginLaws.{one_or_two}
+use Rattle.layout.specs.Answers.{number_of}
+use Rattle.layout.specs.declared.refusal.Refusal.{Refusal}
+use Rattle.writer.specs.Loading.{accepted, refused}
+use Rattle.writer.proofs.DueLaws.{not_zero}
 use Rattle.writer.proofs.GoodLaws.{short_length}
 
 -- ---- One length
@@ -28,22 +29,6 @@ abbrev pub by_length : (channels data_length : ℕ) → ℕ
 by_length ch n = first_due (due 10 (too_short n) ∷ due 13 (too_large ch n) ∷ [])
 
 module _ (ch n : ℕ) where
-  pub length_10 : n < 2 → 10 ≡ by_length ch n
-  unfolding first_due
-  length_10 h = rw (lt-ltb n 2 h)
-
-  large_long : size_limit ch < adpcm_bytes n → 2 ≤ n
-  unfolding adpcm_bytes
-  large_long h = by_cases (eqb ch 2) (λ q. let k = rw q at h in omega arith) (λ q. let k = rw q at h in omega arith)
-
-  pub length_13 : (x y : ℕ) → x ≡ adpcm_bytes n → y ≡ size_limit ch → y < x → 13 ≡ by_length ch n
-  unfolding first_due
-  length_13 x y ex ey h = let k = rw (ex, ey) at h in rw (le-ltb n 2 (large_long k), lt-ltb (size_limit ch) (adpcm_bytes n) k)
-
-  pub length_fine : (x y : ℕ) → 2 ≤ n → x ≡ adpcm_bytes n → y ≡ size_limit ch → x ≤ y → 0 ≡ by_length ch n
-  unfolding first_due
-  length_fine x y s ex ey h = rw (le-ltb n 2 s, le-ltb (size_limit ch) (adpcm_bytes n) (rw (ex, ey) at h))
-
   pub bytes_few : by_length ch n ≡ 0 → adpcm_bytes n ≤ mono_limit
   unfolding adpcm_bytes
   bytes_few h =
@@ -91,58 +76,45 @@ pub record Summed (ch : ℕ) (ns : List ℕ) (total i : ℕ) : Type 0 where
 pub none_summed : (ch : ℕ) (ns : List ℕ) → length ns ≤ block_limit → Summed ch ns file_header_size 0
 none_summed ch ns h = record { few = omega arith; many = h; passed = refl; rest = refl; small = omega arith }
 
-module _ (ch : ℕ) (ns : List ℕ) (total i r : ℕ) (s : Summed ch ns total i) (h : i < length ns) (er : r ≡ by_length ch (get_or ns i 0)) where
+module _ (ch : ℕ) (ns : List ℕ) (total i : ℕ) (s : Summed ch ns total i) (h : i < length ns) where
   here : drop i ns ≡ get_or ns i 0 ∷ drop (i + 1) ns
   here = rw (drop-cons ns i 0 h, add-one)
 
-  first : first_due (lengths_due ch ns) ≡ pick (eqb r 0) (first_due (lengths_due ch (drop (i + 1) ns))) r
-  first = s.passed ∙ rw (here, by_first ch (get_or ns i 0) (drop (i + 1) ns), er)
+  first : first_due (lengths_due ch ns) ≡ pick (eqb (by_length ch (get_or ns i 0)) 0) (first_due (lengths_due ch (drop (i + 1) ns))) (by_length ch (get_or ns i 0))
+  first = s.passed ∙ rw (here, by_first ch (get_or ns i 0) (drop (i + 1) ns))
 
-  pub summed_on : (b : ℕ) → ch ≤ 2 → r ≡ 0 → b ≡ for_block ch (get_or ns i 0) → Summed ch ns (total + b) (i + 1)
+  pub refused_here : (x : Refusal) → number_of x ≡ by_length ch (get_or ns i 0) → first_due (lengths_due ch ns) ≡ number_of x
+  refused_here x e = first ∙ rw (← e, not_zero x)
+
+  pub summed_on : (b : ℕ) → ch ≤ 2 → 0 ≡ by_length ch (get_or ns i 0) → b ≡ for_block ch (get_or ns i 0) → Summed ch ns (total + b) (i + 1)
   unfolding sum
   summed_on b c z eb =
-      let f = block-few ch (get_or ns i 0) c (bytes_few ch (get_or ns i 0) (sym er ∙ z)) in
+      let f = block-few ch (get_or ns i 0) c (bytes_few ch (get_or ns i 0) (sym z)) in
       let few = s.small in
       let d = rw here at s.rest in
       record {
         few = omega arith;
         many = s.many;
-        passed = first ∙ rw z;
+        passed = first ∙ rw (← z);
         rest = omega arith;
         small = omega arith;
       }
 
--- ---- The answers, in their order
+-- ---- The answer
 
-module _ (ch : ℕ) (ns : List ℕ) (p : ℕ) where
-  refuses_with : (n : ℕ) → estimate_refusal ch ns ≡ n → (n ≡ 0 → ⊥) → Refused n ≡ estimate_reply (estimate_of ch ns p)
+module _ (ch : ℕ) (ns : List ℕ) (p : ℕ) (two : (ch ≡ 1 → ⊥) → ch ≡ 2) (few : length ns ≤ block_limit) where
+  counted : estimate_refusal ch ns ≡ first_due (lengths_due ch ns)
+  unfolding estimate_refusal first_due
+  counted = by_cases (eqb ch 1) (λ q. rw (q, le-ltb block_limit (length ns) few)) (λ q. rw (q, eq-eqb ch 2 (two (eqb-false ch 1 q)), le-ltb block_limit (length ns) few))
+
+  pub refused_length : (x : Refusal) → first_due (lengths_due ch ns) ≡ number_of x → refused (number_of x) ≡ estimate_of ch ns p
   unfolding estimate_of
-  refuses_with n e h = rw (e, ne_eqb n 0 h)
+  refused_length x e = rw (counted, e, not_zero x)
 
-  pub no_channel_lem : ch ≡ 0 → Refused 3 ≡ estimate_reply (estimate_of ch ns p)
-  unfolding estimate_refusal first_due
-  no_channel_lem h = refuses_with 3 (rw (ne_eqb ch 1 (λ e. omega arith), ne_eqb ch 2 (λ e. omega arith))) (λ e. omega arith)
-
-  pub many-channels : 2 < ch → Refused 3 ≡ estimate_reply (estimate_of ch ns p)
-  unfolding estimate_refusal first_due
-  many-channels h = refuses_with 3 (rw (ne_eqb ch 1 (λ e. omega arith), ne_eqb ch 2 (λ e. omega arith))) (λ e. omega arith)
-
-  module _ (some : ch ≡ 0 → ⊥) (two : ch ≤ 2) where
-    pub many_lengths : block_limit < length ns → Refused 5 ≡ estimate_reply (estimate_of ch ns p)
-    unfolding estimate_refusal first_due
-    many_lengths h = refuses_with 5 (rw (one_or_two 0 ch 0 some two, lt-ltb block_limit (length ns) h)) (λ e. omega arith)
-
-    counted : length ns ≤ block_limit → estimate_refusal ch ns ≡ first_due (lengths_due ch ns)
-    unfolding estimate_refusal first_due
-    counted h = rw (one_or_two 0 ch 0 some two, le-ltb block_limit (length ns) h)
-
-    pub bad_length : (total i r : ℕ) → Summed ch ns total i → i < length ns → r ≡ by_length ch (get_or ns i 0) → (r ≡ 0 → ⊥) → Refused r ≡ estimate_reply (estimate_of ch ns p)
-    bad_length total i r s h er z = refuses_with r (counted s.many ∙ first ch ns total i r s h er ∙ rw (ne_eqb r 0 z)) z
-
-    pub all_summed : (total i : ℕ) → Summed ch ns total i → length ns ≤ i → Length (total + alignment * p) ≡ estimate_reply (estimate_of ch ns p)
-    unfolding estimate_of estimated lengths_due sum first_due
-    all_summed total i s h =
-        let e : drop i ns ≡ [] = drop_of_length-le ns {i = i} h in
-        let z : estimate_refusal ch ns ≡ 0 = counted s.many ∙ s.passed ∙ rw e in
-        let t : total ≡ file_header_size + sum (for_block ch) ns = let r = rw e at s.rest in omega arith in
-        rw (z, t)
+  pub all_summed : (total i : ℕ) → Summed ch ns total i → length ns ≤ i → accepted (total + alignment * p) ≡ estimate_of ch ns p
+  unfolding estimate_of estimated lengths_due sum first_due
+  all_summed total i s h =
+      let e : drop i ns ≡ [] = drop_of_length-le ns {i = i} h in
+      let z : estimate_refusal ch ns ≡ 0 = counted ∙ s.passed ∙ rw e in
+      let t : total ≡ file_header_size + sum (for_block ch) ns = let r = rw e at s.rest in omega arith in
+      rw (z, t)

@@ -1,9 +1,10 @@
 -- What the estimate returns.
+use Rattle.std.specs.Prelude.{ℕ, Result, Ok, Err}
+use Rattle.layout.specs.Answers.{number_of}
+use Rattle.layout.specs.declared.refusal.Refusal.{Refusal}
 use Rattle.writer.specs.Loading.{Answer, accepted, refused}
-use Rattle.writer_estimate.specs.declared.EstimateReply.{EstimateReply}
-use Rattle.writer_estimate.specs.declared.EstimateReply.TheVariants.{Refused, Length}
 
--- The enum for each answer: the number of a refusal, the estimate.
-abbrev pub estimate_reply : Answer → EstimateReply
-estimate_reply (refused n) = Refused n
-estimate_reply (accepted n) = Length n
+-- The answer that it is: the number of a refusal, or the estimate.
+abbrev pub estimate_says : Result ℕ Refusal → Answer
+estimate_says (Ok n) = accepted n
+estimate_says (Err r) = refused (number_of r)

@@ -3,11 +3,13 @@
 
 ghost use Rattle.std.specs.Prelude.{◌≡◌, [], ◌∷◌, ◌+◌, ◌*◌, ◌≤◌};
 ghost use Rattle.layout.specs.Records.{padded_size, adpcm_bytes, block_header_size};
+ghost use Rattle.layout.specs.Answers.{due_number};
 ghost use Rattle.layout.specs.Refusals.{due, first_due, too_short, too_large, mono_limit};
 ghost use Rattle.writer.specs.Estimate.{estimate_of};
-ghost use Rattle.writer_estimate.specs.EstimateAnswers.{estimate_reply};
+ghost use Rattle.writer_estimate.specs.EstimateAnswers.{estimate_says};
 
 use layout::limits::{ALIGNMENT, BLOCK_HEADER_SIZE, BLOCK_LIMIT, FILE_HEADER_SIZE};
+use layout::refusal::Refusal;
 use layout_sizes::{adpcm_bytes, align, size_limit};
 
 const HEADER: u64 = FILE_HEADER_SIZE as u64;
@@ -15,23 +17,18 @@ const HEADER: u64 = FILE_HEADER_SIZE as u64;
 // A cue takes at most the filled bytes of four.
 const CUE_MOST: u64 = ALIGNMENT as u64;
 
-#[derive(Clone, Copy)]
-pub enum EstimateReply {
-    Refused(u32),
-    Length(u64),
-}
-
-// The first number due by one length, 0 where none is.
-fn length_due(channels: usize, n: usize) -> u32
-    ensures { result ≡ first_due (due 10 (too_short n) ∷ due 13 (too_large channels n) ∷ []) }
+// Why a length is refused, if it is.
+#[tactic(auto, unfolding(layout::specs::Refusals::first_due))]
+fn length_due(channels: usize, n: usize) -> Result<(), Refusal>
+    ensures { due_number result ≡ first_due (due 10 (too_short n) ∷ due 13 (too_large channels n) ∷ []) }
 {
     if n < 2 {
-        return 10;
+        return Err(Refusal::TooShort);
     }
     if adpcm_bytes(n) > size_limit(channels) {
-        return 13;
+        return Err(Refusal::TooLarge);
     }
-    0
+    Ok(())
 }
 
 // What a block with this length may take, without its cues.
@@ -45,30 +42,20 @@ fn block_estimate(channels: usize, n: usize) -> u64
 }
 
 // The sum cannot wrap: at most 512 lengths are added, none of which is too large.
-pub fn estimate(lengths: &[usize], channels: usize, p: u32) -> EstimateReply
-    ensures { result ≡ estimate_reply (estimate_of channels lengths.now p) }
+#[tactic(auto, unfolding(writer::specs::Estimate::estimate_refusal, writer::specs::Estimate::estimate_of, layout::specs::Refusals::first_due))]
+pub fn estimate(lengths: &[usize], channels: usize, p: u32) -> Result<u64, Refusal>
+    ensures { estimate_says result ≡ estimate_of channels lengths.now p }
 {
-    if channels == 0 {
-        return EstimateReply::Refused(3);
-    }
-    if channels > 2 {
-        return EstimateReply::Refused(3);
+    if channels != 1 && channels != 2 {
+        return Err(Refusal::WrongChannelCount);
     }
     if lengths.len() > BLOCK_LIMIT {
-        return EstimateReply::Refused(5);
+        return Err(Refusal::TooManyBlocks);
     }
     let mut sum: u64 = HEADER;
-    let mut i: usize = 0;
-    while i < lengths.len() {
-        let n = lengths[i];
-        let r = length_due(channels, n);
-        if r != 0 {
-            return EstimateReply::Refused(r);
-        }
+    for &n in lengths {
+        length_due(channels, n)?;
         sum += block_estimate(channels, n);
-        i += 1;
     }
-    let cues = CUE_MOST * p as u64;
-    let length = sum + cues;
-    EstimateReply::Length(length)
+    Ok(sum + CUE_MOST * p as u64)
 }

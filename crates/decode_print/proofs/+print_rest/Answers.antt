@@ -4,5 +4,4 @@ use Rattle.decode_print.proofs.+print_rest.Goals as goal
 
 pub returns : goal.returns
 returns g t c =
-    rw c.ended.ensures
-    (heard_short c.print_blocks-h.ensures (omega (arith, c.pushed_room-samples.ensures)) (sym c.is_short.ensures ∙ c.if-is_short.false))
+    heard_short c.in_ok-h.ensures (omega (arith, c.pushed_room-samples.ensures)) (sym c.is_short.ensures ∙ c.if-is_short.false)

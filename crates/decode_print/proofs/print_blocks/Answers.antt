@@ -1,47 +1,37 @@
-use Rattle.std.proofs.Common.{◌≡◌, ◌≤◌, arith, sym, refl, ◌∙◌}
+use Rattle.std.proofs.Common.{arith, ◌∙◌}
+use Rattle.std.proofs.lemmas.Result.{err_from_is_err_and}
 use lib.Seq.{length-take-le}
-use Rattle.layout.proofs.Cases.{apart}
 use Rattle.decode_print.proofs.HearingLaws.{Step, same_places, step}
+use Rattle.decode_print.proofs.print_blocks.Given.{Over}
 use Rattle.decode_print.proofs.print_blocks.Goals as goal
+use Rattle.decode_print.proofs.print_blocks.Goals.{In-Samples}
 
-pub print_samples-taken-requires : goal.print_samples-taken-requires
-print_samples-taken-requires g c =
-    let o : Step c.args.s.now c.args.r c.args.channel c.loop-n.decoder c.loop-n.length c.decode-call.result c.decode-call.new.samples c.in-Samples.n =
+-- what the call gave
+given : (g : Over) (c : In-Samples g)
+    → Step c.args.s.now c.args.r c.args.channel c.loop-n.decoder c.loop-n.length c.decode-call.result c.decode-call.new.samples c.in-Samples.n
+given g c =
     step _ _ _ _ c.loop-n.samples c.loop-n.invariant.0.1 (omega (arith, c.loop-n.invariant.1)) c.decode-call.ensures.value
-    c.decode-call.ensures.samples_after c.in-Samples.is in
-    rw (length-take-le _ _ o.fits) o.samples
+    c.decode-call.ensures.samples_after c.in-Samples.is
 
-pub returns-then-taken-n : goal.returns-then-taken-n
-returns-then-taken-n g c =
-    let o : Step c.args.s.now c.args.r c.args.channel c.loop-n.decoder c.loop-n.length c.decode-call.result c.decode-call.new.samples c.in-Samples.n =
-    step _ _ _ _ c.loop-n.samples c.loop-n.invariant.0.1 (omega (arith, c.loop-n.invariant.1)) c.decode-call.ensures.value
-    c.decode-call.ensures.samples_after c.in-Samples.is in
-    let took : c.print_samples-taken.result ≤ c.in-Samples.n =
-    omega (arith, c.print_samples-taken.ensures, length-take-le c.in-Samples.n c.decode-call.new.samples o.fits) in
-    record {
-      most = omega (arith, took, o.inside);
-      before = λ w. apart (sym w);
-      reply = λ w. apart (sym w);
-      quiet = λ w. apart (sym w);
-      given = λ w. refl;
-    }
+pub print_samples-requires : goal.print_samples-requires
+print_samples-requires g c =
+    let o = given g (goal.at.print_samples-requires g c).In-Samples in
+    let n = length-take-le _ _ o.fits in
+    record { those = rw n o.samples; fits = omega (arith, n, o.inside, o.next.few) }
+
+pub returns-in_err-taken : goal.returns-in_err-taken
+returns-in_err-taken g c =
+    let o = given g (goal.at.returns-in_err-taken g c).In-Samples in
+    let p = err_from_is_err_and c.from_residual.result c.from_residual.ensures.1 in
+    rw (p.1, p.2) (omega (arith, c.in_err-taken.ensures, length-take-le _ _ o.fits, o.inside))
 
 pub loop-n-smaller : goal.loop-n-smaller
-loop-n-smaller g c =
-    let o : Step c.args.s.now c.args.r c.args.channel c.loop-n.decoder c.loop-n.length c.decode-call.result c.decode-call.new.samples c.in-Samples.n =
-    step _ _ _ _ c.loop-n.samples c.loop-n.invariant.0.1 (omega (arith, c.loop-n.invariant.1)) c.decode-call.ensures.value
-    c.decode-call.ensures.samples_after c.in-Samples.is in
-    o.less
+loop-n-smaller g c = (given g (goal.at.loop-n-smaller g c).In-Samples).less
 
 pub loop-n-preserved : goal.loop-n-preserved
 loop-n-preserved g c =
-    let o : Step c.args.s.now c.args.r c.args.channel c.loop-n.decoder c.loop-n.length c.decode-call.result c.decode-call.new.samples c.in-Samples.n =
-    step _ _ _ _ c.loop-n.samples c.loop-n.invariant.0.1 (omega (arith, c.loop-n.invariant.1)) c.decode-call.ensures.value
-    c.decode-call.ensures.samples_after c.in-Samples.is in
-    let took : c.print_samples-taken.result ≤ c.in-Samples.n =
-    omega (arith, c.print_samples-taken.ensures, length-take-le c.in-Samples.n c.decode-call.new.samples o.fits) in
-    let all : c.print_samples-taken.result ≡ c.in-Samples.n = omega (arith, took, c.if-taken-n.false) in
+    let o = given g (goal.at.loop-n-preserved g c).In-Samples in
     let i = c.loop-n.invariant in (
-      (i.0.0, rw all o.next),
+      (i.0.0, rw (c.in_ok-taken.ensures, length-take-le _ _ o.fits) o.next),
       (same_places c.args.s.now c.args.r c.args.channel c.loop-n.decoder c.loop-n.samples c.decode-call.ensures.samples_after ∙ i.1.0, i.1.1),
     )

@@ -2,4 +2,4 @@ use Rattle.decode_print.proofs.HearingLaws.{heard-long}
 use Rattle.decode_print.proofs.print_long.Goals as goal
 
 pub returns : goal.returns
-returns g c = rw c.ended.ensures (heard-long c.print_blocks-h.ensures c.long_room-samples.ensures)
+returns g c = heard-long c.in_ok-h.ensures c.long_room-samples.ensures

@@ -1,27 +1,20 @@
-use native.Mathlib.Omega.{arith}
-use lib.ListN.{get_or, length-set}
-use lib.IntN.{pos}
+use Rattle.std.proofs.Common.{rules, arith, get_or, pos}
 use mir.Syntax.{w16}
 use mir.Val.{SFits}
 use mir.Facts.{to_z-of_z}
-use borrow.Author.Rules.{rules}
-use Rattle.fader.proofs.FadeLaws.{faded_from, fading-none, fading-more, fading-all}
+use Rattle.std.proofs.lemmas.List.{get_or_default}
+use Rattle.std.proofs.lemmas.List.Edits.{map_over_more}
+use Rattle.std.proofs.lemmas.Grind.{common_steps}
+use Rattle.fader.specs.Fader.{faded, faded_by}
+use Rattle.fader.proofs.FadeLaws.{faded_from}
 use Rattle.fader.proofs.fade_by.Goals as goal
 
-pub loop-i-preserved : goal.loop-i-preserved
-loop-i-preserved c =
-    let f : SFits w16 (get_or c.loop-i.samples c.loop-i.i (pos 0)) = search rules in
-    fading-more c.loop-i.invariant (omega (arith, c.loop-i-test.true))
-    (simp (c.fade_sample.ensures, to_z-of_z f, to_z-of_z (faded_from _ _ f c.requires).fits))
-
-pub shape_of-samples : goal.shape_of-samples
-shape_of-samples c = c.loop-i.invariant.size
+pub loop-x-preserved : goal.loop-x-preserved
+loop-x-preserved c =
+    let f : SFits w16 (get_or c.loop-x.samples c.loop-x.x-index (pos 0)) = search rules in
+    simp (c.fade_sample.ensures, to_z-of_z f, to_z-of_z (faded_from _ _ f c.requires).fits)
+    (map_over_more (λ x. faded x c.args.entry) _ _ _ _ (omega arith) c.loop-x.invariant (get_or_default c.loop-x.samples c.loop-x.x-index (pos 0) _ (omega arith)))
 
 pub returns : goal.returns
-returns c = fading-all c.loop-i.invariant (omega (arith, c.loop-i-test.false))
-
-pub loop-i-init : goal.loop-i-init
-loop-i-init c = fading-none _ _
-
-pub loop-i-smaller : goal.loop-i-smaller
-loop-i-smaller c = simp length-set (omega arith)
+unfolding faded_by
+returns c = grind (arith, common_steps)

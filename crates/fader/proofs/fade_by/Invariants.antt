@@ -1,12 +1,7 @@
-use Prim.Native.Nat.{◌-◌}
-use lib.ListN.{length}
-use Rattle.fader.proofs.FadeLaws.{Fading}
+use Rattle.std.proofs.Common.{◌≡◌, ◌++◌, map, take, drop}
+use Rattle.fader.specs.Fader.{faded}
 use Rattle.fader.proofs.fade_by.Given as goal
 
-abbrev pub invariant-loop-i : goal.invariant-loop-i
-invariant-loop-i l =
-    Fading l.entry l.initial.samples l.samples l.i
-
-abbrev pub decreases-loop-i : goal.decreases-loop-i
-decreases-loop-i l =
-    length l.samples - l.i
+abbrev pub invariant-loop-x : goal.invariant-loop-x
+invariant-loop-x l =
+    l.samples ≡ map (λ x. faded x l.entry) (take l.x-index l.initial.samples) ++ drop l.x-index l.initial.samples

@@ -1,4 +1,5 @@
 use native.Mathlib.Omega.{arith}
+use Rattle.std.proofs.Common.{◌<◌}
 use Rattle.frame_pool.proofs.PoolLaws.{highest-below, refused_by, served_by}
 use borrow.Author.Rules.{rules}
 use Rattle.frame_pool.proofs.take.Goals as goal
@@ -11,3 +12,8 @@ bounds-marks-frame c = rw c.highest_free-frame.ensures (highest-below 16 _ (omeg
 
 pub returns : goal.returns
 returns c = search (served_by, rules)
+
+pub offset_bounds-marks-frame : goal.offset_bounds-marks-frame
+offset_bounds-marks-frame c =
+    let h : c.highest_free-frame.result < 16 = rw c.highest_free-frame.ensures (highest-below 16 _ (omega arith)) in
+    search rules

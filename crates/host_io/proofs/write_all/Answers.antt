@@ -1,15 +1,19 @@
-use Rattle.std.proofs.Common.{◌++◌, rules, take, sym, ap, ◌∙◌, subst}
-use lib.Seq.{take-add}
-use Rattle.std.proofs.lemmas.List.{take_rest}
-use Rattle.std.specs.Io.KnownBytes.{Appends}
+use Rattle.std.proofs.Common.{◌++◌, take}
 use Rattle.std.proofs.KnownBytes.{Appends-trans}
+use Rattle.host_io.proofs.Growing.{part_written, rest_after}
 use Rattle.host_io.proofs.write_all.Goals as goal
 
-pub loop-done-preserved : goal.loop-done-preserved
-loop-done-preserved g c =
-    let (within, appended) = c.loop-done.invariant in
-    let bytes = c.args.bytes.now in
-    let done = c.loop-done.done in
-    let n = c.in-Ok.n in
-    let e = ap (λ l. take done bytes ++ take n l) (take_rest bytes done) ∙ sym (take-add done n bytes) in
-    (search rules, subst (Appends _ _) e (Appends-trans _ _ _ _ _ appended c.in-Ok.ensures.bytes))
+pub loop-rest-preserved : goal.loop-rest-preserved
+loop-rest-preserved g c =
+    let (done, split, appended) = c.loop-rest.invariant in
+    (done ++ take c.in-Ok.n c.loop-rest.rest.now, rest_after _ done _ _ split, Appends-trans _ _ _ _ _ appended c.in-Ok.ensures.bytes)
+
+pub returns-in-Ok-eq0-clause-part : goal.returns-in-Ok-eq0-clause-part
+returns-in-Ok-eq0-clause-part g c =
+    let (done, split, appended) = c.loop-rest.invariant in
+    part_written _ _ _ _ done _ _ split appended c.write.ensures.bound c.write.ensures.bytes
+
+pub returns-in-Ok-eq0-2-clause-part : goal.returns-in-Ok-eq0-2-clause-part
+returns-in-Ok-eq0-2-clause-part g c =
+    let (done, split, appended) = c.loop-rest.invariant in
+    part_written _ _ _ _ done _ _ split appended c.write.ensures.bound c.write.ensures.bytes

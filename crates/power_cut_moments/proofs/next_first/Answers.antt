@@ -1,28 +1,19 @@
-use Prim.Native.Nat.{◌+◌, ◌-◌}
-use mathlib.Core.Path.{refl, ap}
-use native.Mathlib.Omega.{arith}
-use lib.ListN.{length}
-use Rattle.power_cut_moments.proofs.MomentLaws.{passing_none, passing_here, passing_more, passing_all}
-use borrow.Author.Rules.{rules}
+use Rattle.std.proofs.Common.{sym, ◌∙◌}
+use Rattle.power_cut_moments.proofs.MomentLaws.{next_past, next_part, next_more}
 use Rattle.power_cut_moments.proofs.next_first.Goals as goal
 
-pub loop-i-init : goal.loop-i-init
-loop-i-init c = (refl, passing_none (search rules))
+pub returns-then-left-part : goal.returns-then-left-part
+returns-then-left-part c =
+    c.reach_next.ensures
+    ∙ rw (c.loop-place.invariant.0) (next_part _ _ _ _ _ _ c.loop-place-test.true c.parted.ensures.part c.parted.ensures.rest c.if-left-part.true
+    ∙ c.loop-place.invariant.1)
 
-pub shape_of-slot-then-left-size : goal.shape_of-slot-then-left-size
-shape_of-slot-then-left-size c = let h = ap length c.loop-i.invariant.0 in omega arith
-
-pub returns-then-left-size : goal.returns-then-left-size
-returns-then-left-size c = passing_here c.loop-i.invariant.1
-    c.loop-i.invariant.0 _ (search rules) c.least-size.ensures
-    (c.loop-i.at + c.least-size.result
-    - c.loop-i.at) (omega arith) (search rules) c.reach_next.ensures
-
-pub loop-i-preserved : goal.loop-i-preserved
-loop-i-preserved c = passing_more c.loop-i.invariant.1 c.loop-i.invariant.0 _ (search rules) c.least-size.ensures (search rules)
-
-pub shape_of-slot : goal.shape_of-slot
-shape_of-slot c = ap length c.loop-i.invariant.0
+pub loop-place-preserved : goal.loop-place-preserved
+loop-place-preserved c = (
+  c.loop-place.invariant.0,
+  next_more _ _ _ _ _ _ c.loop-place-test.true c.parted.ensures.part c.parted.ensures.rest c.if-left-part.false
+  ∙ c.loop-place.invariant.1,
+)
 
 pub returns : goal.returns
-returns c = passing_all c.loop-i.invariant.1 c.loop-i.invariant.0 (search rules)
+returns c = c.loop-place.invariant.0 ∙ sym (next_past _ _ _ _ _ c.loop-place-test.false) ∙ c.loop-place.invariant.1

@@ -1,12 +1,8 @@
-use Prim.Native.Nat.{◌-◌}
-use mathlib.Core.Path.{◌≡◌}
-use Rattle.power_cut_moments.proofs.MomentLaws.{Passing}
+use Rattle.std.proofs.Common.{◌≡◌, drop}
+use Rattle.writer.specs.WritesAndCuttingRule.{writes_in}
+use Rattle.power_cut_moments.specs.Moments.{next_byte}
 use Rattle.power_cut_moments.proofs.next_first.Given as goal
 
-abbrev pub invariant-loop-i : goal.invariant-loop-i
-invariant-loop-i l =
-    (l.slot ≡ l.initial.slot) × Passing l.initial.slot l.places l.count l.bytes l.moment l.i l.at l.left
-
-abbrev pub decreases-loop-i : goal.decreases-loop-i
-decreases-loop-i l =
-    l.count - l.i
+abbrev pub invariant-loop-place : goal.invariant-loop-place
+invariant-loop-place l =
+    (l.slot ≡ l.initial.slot) × (next_byte l.initial.slot (writes_in (drop l.place-index l.places) l.rest) l.left ≡ next_byte l.initial.slot (writes_in l.places l.bytes) l.moment)

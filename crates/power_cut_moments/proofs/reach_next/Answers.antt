@@ -1,10 +1,8 @@
-use Prim.Native.Nat.{◌+◌, ◌≤◌}
-use native.Mathlib.Omega.{arith}
-use lib.ListN.{length}
+use Rattle.std.proofs.Common.{◌+◌, ◌≤◌, length, arith}
 use Rattle.layout.proofs.FieldLaws.{passed, failed}
 use Rattle.power_cut_moments.proofs.MomentLaws.{next_in, next_done, next_out}
-use borrow.Author.Rules.{rules}
 use Rattle.power_cut_moments.proofs.reach_next.Goals as goal
+use Rattle.power_cut_moments.proofs.reach_next.Goals.{else-inside-via-then-inside+else-k-bytes, else-inside-via-else-inside}
 
 pub overflow_add-slot : goal.overflow_add-slot
 overflow_add-slot c = let s = c.args in let h : s.at + length s.bytes.now ≤ length s.slot.now =
@@ -15,10 +13,11 @@ bounds-slot-at c = let s = c.args in let h : s.at + length s.bytes.now ≤ lengt
     passed c.inside.ensures c.if-inside.true in omega arith
 
 pub returns-then-k-bytes : goal.returns-then-k-bytes
-returns-then-k-bytes c = next_in _ _ _ _ (passed c.inside.ensures c.if-inside.true) (search rules)
-
-pub returns-else-k-bytes : goal.returns-else-k-bytes
-returns-else-k-bytes c = next_done _ _ _ _ (search rules)
+returns-then-k-bytes c = next_in _ _ _ _ (passed c.inside.ensures c.if-inside.true) (omega arith)
 
 pub returns-else-inside : goal.returns-else-inside
-returns-else-inside c = next_out _ _ _ _ (failed c.inside.ensures c.if-inside.false)
+returns-else-inside c =
+    elim c.else-inside.branch [
+      else-inside-via-then-inside+else-k-bytes w ↦ next_done _ _ _ _ (omega arith)
+    | else-inside-via-else-inside w ↦ next_out _ _ _ _ (failed c.inside.ensures w.if-inside.false)
+    ]

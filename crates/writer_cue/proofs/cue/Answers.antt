@@ -1,33 +1,30 @@
-use Rattle.writer_cue.proofs.CueCallLaws.{refused_cue, equal_cue, room-left, new_cue, place_inside}
+use Rattle.std.proofs.Common.{sym}
+use Rattle.writer.specs.Calls.{held}
+use Rattle.writer_cue.proofs.CueCallLaws.{place_is, held_count, put_inside, put_is, cue_refused, cue_accepted, equal_adds_nothing, room_left, new_is_put}
 use Rattle.writer_cue.proofs.cue.Goals as goal
 
-pub returns-then-r-ne0 : goal.returns-then-r-ne0
-returns-then-r-ne0 c =
-    let all = refused_cue c.args.w c.args.c c.requires c.is_bad-bad.ensures c.search-found.ensures c.cue_due-r.ensures c.refused.ensures c.if-r-ne0.true in
-    record {
-      value = all.0;
-      good = all.1;
-    }
+pub returns-in-Err-clause-value : goal.returns-in-Err-clause-value
+returns-in-Err-clause-value c =
+    rw (cue_refused c.args.w c.args.c c.requires c.is_bad-bad.ensures c.holds-equal.ensures c.in-Err.refusal c.in-Err.ensures, c.into.ensures)
 
-pub returns-then-found : goal.returns-then-found
-returns-then-found c =
-    let all = equal_cue c.args.w c.args.c c.requires c.is_bad-bad.ensures c.search-found.ensures c.cue_due-r.ensures c.if-r-ne0.false c.accepted.ensures c.if-found.true in
-    record {
-      value = all.0;
-      good = all.1;
-    }
+pub returns-then-equal-clause-value : goal.returns-then-equal-clause-value
+returns-then-equal-clause-value c =
+    rw (
+      cue_accepted c.args.w c.args.c c.requires c.is_bad-bad.ensures c.holds-equal.ensures c.in_default.ensures,
+      equal_adds_nothing c.args.w c.args.c c.requires c.is_bad-bad.ensures c.holds-equal.ensures c.in_default.ensures c.if-equal.true,
+    )
 
-pub put_in-u-requires : goal.put_in-u-requires
-put_in-u-requires c = (
-  place_inside c.args.w c.args.c _ c.search-found.ensures,
-  room-left c.args.w.stream.blocks c.is_bad-bad.result _ _ _ c.cue_due-r.ensures c.if-r-ne0.false c.if-found.false,
-)
+pub put_in-cues-requires : goal.put_in-cues-requires
+put_in-cues-requires c =
+    let at = place_is c.args.c (held c.args.w) c.next_after.ensures c.unwrap_or-place.ensures (sym (held_count c.args.w c.args.c c.requires)) in (
+      put_inside c.args.w c.args.c c.requires at,
+      room_left c.args.w c.args.c c.requires c.is_bad-bad.ensures c.holds-equal.ensures c.in_default.ensures c.if-equal.false,
+    )
 
-pub returns : goal.returns
-returns c =
-    let all = new_cue c.args.w c.args.c c.requires c.is_bad-bad.ensures c.search-found.ensures c.cue_due-r.ensures c.if-r-ne0.false c.accepted-2.ensures c.if-found.false
-    c.put_in-u.ensures in
-    record {
-      value = all.0;
-      good = all.1;
-    }
+pub returns-clause-value : goal.returns-clause-value
+returns-clause-value c =
+    let at = place_is c.args.c (held c.args.w) c.next_after.ensures c.unwrap_or-place.ensures (sym (held_count c.args.w c.args.c c.requires)) in
+    rw (
+      cue_accepted c.args.w c.args.c c.requires c.is_bad-bad.ensures c.holds-equal.ensures c.in_default.ensures,
+      new_is_put c.args.w c.args.c c.requires c.is_bad-bad.ensures c.holds-equal.ensures c.if-equal.false (put_is c.args.w c.args.c c.requires at c.put_in-cues.ensures),
+    )

@@ -1,13 +1,6 @@
-use native.Mathlib.Omega.{arith}
-use Rattle.writer_cue.proofs.CueTableLaws.{move_none, move_on, move_all}
-use borrow.Author.Rules.{rules}
+use Rattle.std.proofs.Common.{arith}
+use Rattle.writer_cue.proofs.CueTableLaws.{put_in_place}
 use Rattle.writer_cue.proofs.put_in.Goals as goal
 
-pub loop-k-init : goal.loop-k-init
-loop-k-init c = (omega arith, omega arith, search move_none)
-
-pub loop-k-preserved : goal.loop-k-preserved
-loop-k-preserved c = (omega arith, omega arith, search (move_on, rules))
-
 pub returns : goal.returns
-returns c = search (move_all, rules)
+returns c = put_in_place c.args.i c.args.n c.args.t c.args.c c.copy_within.ensures.after (omega arith) (omega arith)

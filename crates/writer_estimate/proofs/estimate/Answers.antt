@@ -1,41 +1,35 @@
-use Prim.Native.Nat.{◌+◌}
-use mathlib.Core.Path.{sym, ◌∙◌}
-use native.Mathlib.Omega.{arith}
-use Rattle.writer_estimate.proofs.EstimateCodeLaws.{Summed, none_summed, summed_on, bytes_few, no_channel_lem, many-channels, many_lengths, bad_length, all_summed}
-use borrow.Author.Rules.{rules}
+use Rattle.std.proofs.Common.{◌≡◌, ◌≤◌, length, arith, rules}
+use Rattle.layout.specs.Refusals.{block_limit}
+use Rattle.layout.specs.Answers.{number_of}
+use Rattle.writer.specs.Loading.{refused}
+use Rattle.writer.specs.Estimate.{estimate_of}
+use Rattle.writer_estimate.proofs.EstimateCodeLaws.{summed_on, refused_here, refused_length, all_summed}
 use Rattle.writer_estimate.proofs.estimate.Goals as goal
-use Rattle.writer_estimate.proofs.estimate.Goals.{After-block_estimate-sum}
 
-pub returns-then-channels-eq0 : goal.returns-then-channels-eq0
-returns-then-channels-eq0 c = search no_channel_lem
-
-pub returns-then-channels-gt2 : goal.returns-then-channels-gt2
-returns-then-channels-gt2 c = search many-channels
-
-pub returns-then-lengths-gt-BLOCK_LIMIT : goal.returns-then-lengths-gt-BLOCK_LIMIT
-returns-then-lengths-gt-BLOCK_LIMIT c = search many_lengths
-
-pub loop-i-init : goal.loop-i-init
-loop-i-init c = search none_summed
-
-pub returns-then-r-ne0 : goal.returns-then-r-ne0
-returns-then-r-ne0 c = search (bad_length, rules)
-
-pub block_estimate-sum-requires : goal.block_estimate-sum-requires
-block_estimate-sum-requires c =
-    (c.if-channels-gt2.false, bytes_few c.args.channels _ (sym c.length_due-r.ensures ∙ c.if-r-ne0.false))
-
-again : (c : After-block_estimate-sum)
-    → Summed c.args.channels c.args.lengths.now (c.loop-i.sum + c.block_estimate-sum.result) (c.loop-i.i + 1)
-again c =
-    summed_on _ _ _ _ _ c.loop-i.invariant c.loop-i-test.true c.length_due-r.ensures _ c.if-channels-gt2.false c.if-r-ne0.false
-    c.block_estimate-sum.ensures
+pub returns-in_err-length_due : goal.returns-in_err-length_due
+returns-in_err-length_due c =
+    let a = c.args in
+    let two : (a.channels ≡ 1 → ⊥) → a.channels ≡ 2 = λ n. omega arith in
+    let few : length a.lengths.now ≤ block_limit = omega arith in
+    let r : refused (number_of c.in_err-length_due.field-0.0) ≡ estimate_of a.channels a.lengths.now a.p =
+    refused_length a.channels a.lengths.now a.p two few c.in_err-length_due.field-0.0
+    (refused_here a.channels a.lengths.now c.loop-n.sum c.loop-n.n-index c.loop-n.invariant c.loop-n-test.true c.in_err-length_due.field-0.0 c.in_err-length_due.ensures) in
+    search (r, rules)
 
 pub overflow_add-sum : goal.overflow_add-sum
-overflow_add-sum c = omega (arith, again (goal.at.overflow_add-sum c).After-block_estimate-sum)
+overflow_add-sum c =
+    let s = summed_on c.args.channels c.args.lengths.now c.loop-n.sum c.loop-n.n-index c.loop-n.invariant c.loop-n-test.true c.block_estimate-sum.result (omega arith)
+    c.in_ok-length_due.ensures c.block_estimate-sum.ensures in
+    omega arith
 
-pub loop-i-preserved : goal.loop-i-preserved
-loop-i-preserved c = again (goal.at.loop-i-preserved c).After-block_estimate-sum
+pub loop-n-preserved : goal.loop-n-preserved
+loop-n-preserved c =
+    summed_on c.args.channels c.args.lengths.now c.loop-n.sum c.loop-n.n-index c.loop-n.invariant c.loop-n-test.true c.block_estimate-sum.result (omega arith)
+    c.in_ok-length_due.ensures c.block_estimate-sum.ensures
 
 pub returns : goal.returns
-returns c = search (all_summed, rules)
+returns c =
+    let a = c.args in
+    let two : (a.channels ≡ 1 → ⊥) → a.channels ≡ 2 = λ n. omega arith in
+    let few : length a.lengths.now ≤ block_limit = omega arith in
+    all_summed a.channels a.lengths.now a.p two few c.loop-n.sum c.loop-n.n-index c.loop-n.invariant (omega arith)

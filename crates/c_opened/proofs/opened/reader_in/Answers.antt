@@ -1,58 +1,36 @@
-use mathlib.Core.Path.{refl, ◌∙◌}
-use Rattle.layout.proofs.FieldLaws.{beside_read, beside_number}
-use Rattle.c_opened.proofs.KeptReads.{and_readable, too_few, many-channels, many_blocks, no_left, no_right, part-made}
+use mathlib.Core.Path.{sym, refl, ◌∙◌}
+use Rattle.c_opened.proofs.KeptReads.{too_few, many-channels, many_blocks, no_left, no_right, part-made, lesser_is, none_held, record_held, none_counted}
 use borrow.Author.Rules.{rules}
 use Rattle.c_opened.proofs.opened.reader_in.Goals as goal
+use Rattle.c_opened.proofs.opened.reader_in.Goals.{then-count-eq0-via-then-count-eq0, then-count-eq0-via-else-count-eq0+then-count-gt2}
+use Rattle.c_opened.proofs.opened.reader_in.Goals.{then-count-eq0-via-else-count-eq0+else-count-gt2+then-blocks-gt-BLOCK_LIMIT}
 
-pub returns-then-kept-lt-OPENED_SIZE : goal.returns-then-kept-lt-OPENED_SIZE
-returns-then-kept-lt-OPENED_SIZE c = let all = and_readable _ _ _ _ (c.no_reader.ensures ∙ search (too_few, rules)) in
-    record {
-      value = all.0;
-      readable = all.1;
-    }
+pub returns-then-kept-lt-OPENED_SIZE-clause-value : goal.returns-then-kept-lt-OPENED_SIZE-clause-value
+returns-then-kept-lt-OPENED_SIZE-clause-value c = none_held _ _ _ (search (too_few, rules))
 
-pub returns-then-count-gt2 : goal.returns-then-count-gt2
-returns-then-count-gt2 c = let all = and_readable _ _ _ _ (c.no_reader-then-count-gt2.ensures ∙ search (many-channels, rules)) in
-    record {
-      value = all.0;
-      readable = all.1;
-    }
+pub returns-then-count-eq0-clause-value : goal.returns-then-count-eq0-clause-value
+returns-then-count-eq0-clause-value c =
+    let h = c.if-kept-lt-OPENED_SIZE.false in
+    let e = c.word-count.ensures in
+    elim c.then-count-eq0.branch [
+      then-count-eq0-via-then-count-eq0 w ↦ none_counted _ _ _ h e w.if-count-eq0.true
+      | then-count-eq0-via-else-count-eq0+then-count-gt2 w ↦ none_held _ _ _ (many-channels _ _ _ h e w.if-count-gt2.true)
+      | then-count-eq0-via-else-count-eq0+else-count-gt2+then-blocks-gt-BLOCK_LIMIT w ↦
+        none_held _ _ _ (many_blocks _ _ _ h e w.if-count-gt2.false c.word-blocks.ensures w.if-blocks-gt-BLOCK_LIMIT.true)
+    ]
 
-pub returns-then-blocks-gt-BLOCK_LIMIT : goal.returns-then-blocks-gt-BLOCK_LIMIT
-returns-then-blocks-gt-BLOCK_LIMIT c = let all = and_readable _ _ _ _ (c.no_reader-then-blocks-gt-BLOCK_LIMIT.ensures ∙ search (many_blocks, rules)) in
-    record {
-      value = all.0;
-      readable = all.1;
-    }
+pub returns-in_default-clause-value : goal.returns-in_default-clause-value
+returns-in_default-clause-value c =
+    none_held _ _ _ (no_left _ _ _ c.if-kept-lt-OPENED_SIZE.false c.word-count.ensures c.if-count-gt2.false c.word-blocks.ensures c.if-blocks-gt-BLOCK_LIMIT.false (sym c.in_default.ensures))
 
-pub returns-in_default : goal.returns-in_default
-returns-in_default c =
-    let e = beside_number _ c.read_channel-left.ensures.result_value c.in_default.is refl in
-    let all = and_readable _ _ _ _ (c.no_reader-in_default.ensures ∙ search (no_left, rules)) in
-    record {
-      value = all.0;
-      readable = all.1;
-    }
+pub returns-in_default-read_channel-clause-value : goal.returns-in_default-read_channel-clause-value
+returns-in_default-read_channel-clause-value c =
+    none_held _ _ _ (no_right _ _ _ c.if-kept-lt-OPENED_SIZE.false c.word-count.ensures c.if-count-gt2.false c.word-blocks.ensures c.if-blocks-gt-BLOCK_LIMIT.false
+    (sym c.in-Ok.ensures) (sym c.in_default-read_channel.ensures))
 
-pub returns-in_default-answer : goal.returns-in_default-answer
-returns-in_default-answer c =
-    let e = beside_number _ c.read_channel-right.ensures.result_value c.in_default-answer.is refl in
-    let l = beside_read _ c.read_channel-left.ensures.result_value c.in-Value.is in
-    let all = and_readable _ _ _ _ (c.no_reader-in_default-answer.ensures ∙ search (no_right, rules)) in
-    record {
-      value = all.0;
-      readable = all.1;
-    }
-
-pub returns : goal.returns
-returns c =
-    let r = beside_read _ c.read_channel-right.ensures.result_value c.in-Value-answer.is in
-    let l = beside_read _ c.read_channel-left.ensures.result_value c.in-Value.is in
-    let all = and_readable _ _ _ _
+pub returns-clause-value : goal.returns-clause-value
+returns-clause-value c =
+    record_held _ _ _ _ c.if-count-eq0.false
     (part-made _ _ _ c.if-kept-lt-OPENED_SIZE.false c.word-count.ensures c.if-count-gt2.false
-    c.word-blocks.ensures c.if-blocks-gt-BLOCK_LIMIT.false l r c.word-2.ensures refl refl refl
-    c.least.ensures.value c.offsets_in-offsets.ensures c.word.ensures c.loop_of-loop_start.ensures) in
-    record {
-      value = all.0;
-      readable = all.1;
-    }
+    c.word-blocks.ensures c.if-blocks-gt-BLOCK_LIMIT.false (sym c.in-Ok.ensures) (sym c.in-Ok-read_channel.ensures) c.word-2.ensures refl refl refl
+    (c.min.ensures ∙ lesser_is _ _) c.offsets_in-offsets.ensures c.word.ensures c.loop_of-loop_start.ensures)

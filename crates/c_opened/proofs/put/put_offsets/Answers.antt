@@ -1,10 +1,9 @@
-use native.Mathlib.Omega.{arith}
 use Rattle.c_opened.proofs.KeptPuts.{offsets_none, offsets_more, offsets_all}
 use borrow.Author.Rules.{rules}
 use Rattle.c_opened.proofs.put.put_offsets.Goals as goal
 
 pub loop-i-init : goal.loop-i-init
-loop-i-init c = let p = c.requires in (offsets_none p.1 (omega (arith, p.0, p.2)), p.0)
+loop-i-init c = offsets_none c.requires.0 c.requires.1
 
 pub loop-i-preserved : goal.loop-i-preserved
 loop-i-preserved c = search (offsets_more, rules)

@@ -1,9 +1,8 @@
-use Rattle.c_record_put.proofs.NumberLaws.{marks_put}
+use mathlib.Core.Path.{◌∙◌}
+use Rattle.c_record_put.proofs.NumberLaws.{mode_tag, flag_is, marks_put}
 use Rattle.c_record_put.proofs.numbers.put_marks.Goals as goal
 
 pub returns : goal.returns
 returns c =
-    marks_put _ _ _ _ _ c.loop_number.result c.mode_number.result c.args.id c.flag.result c.flag-2.result
-    c.args.loopat c.args.mode c.args.last c.args.finished c.requires c.loop_number.ensures c.put_long.ensures
-    c.mode_number.ensures c.put_u32.ensures c.put_u32-2.ensures c.flag.ensures c.put_u32-3.ensures
-    c.flag-2.ensures c.put_u32-4.ensures
+    marks_put _ _ _ _ _ _ _ c.args.f.stream.id _ _ c.args.f.stream.loopat c.args.f.setup.mode c.args.f.stream.last c.args.f.finished c.requires
+    c.loop_number.ensures c.put_long.ensures (mode_tag _) c.put_u32.ensures c.put_u32-2.ensures (c.from.ensures ∙ flag_is _) c.put_u32-3.ensures (c.from-2.ensures ∙ flag_is _) c.put_u32-4.ensures

@@ -1,29 +1,15 @@
-use mathlib.Core.Path.{sym, ap, ◌∙◌}
-use lib.ListN.{length, length-set}
-use native.Mathlib.Omega.{arith}
-use Rattle.layout.proofs.FieldLaws.{passed, failed}
-use Rattle.layout.proofs.PutLaws.{put_at_out, put_at-length}
-use Rattle.key_lines.proofs.ColumnLaws.{column-length, placing_none, placing_more, placing_blank, placing_all}
+use Rattle.std.proofs.Common.{arith, sym}
+use Rattle.layout.proofs.FieldLaws.{failed}
+use Rattle.layout.proofs.PutLaws.{put_at_out}
+use Rattle.key_lines.proofs.ColumnLaws.{column-length, placing_more, placing_blank, placing_all}
 use Rattle.key_lines.proofs.columns.put_column.Goals as goal
-
-pub loop-k-init : goal.loop-k-init
-loop-k-init c = placing_none _ _ _ _ (passed c.inside.ensures c.if-inside.true)
-
-pub shape_of-out-then-left-lt10 : goal.shape_of-out-then-left-lt10
-shape_of-out-then-left-lt10 c =
-    ap length c.put_fill.ensures
-    ∙ simp (put_at-length, length-set) c.loop-k.invariant.same
 
 pub returns-then-left-lt10 : goal.returns-then-left-lt10
 returns-then-left-lt10 c =
-    placing_blank c.loop-k.invariant c.loop-k-test.true
-    c.if-left-lt10.true _ c.digit.ensures _ c.put_fill.ensures
+    placing_blank c.loop-k.invariant c.loop-k-test.true c.if-left-lt10.true _ c.digit.ensures _ c.put_fill.ensures
 
 pub loop-k-preserved : goal.loop-k-preserved
 loop-k-preserved c = rw c.digit.ensures (placing_more c.loop-k.invariant c.loop-k-test.true c.if-left-lt10.false)
-
-pub shape_of-out : goal.shape_of-out
-shape_of-out c = c.loop-k.invariant.same
 
 pub returns-after-loop-k : goal.returns-after-loop-k
 returns-after-loop-k c = placing_all c.loop-k.invariant (omega arith)

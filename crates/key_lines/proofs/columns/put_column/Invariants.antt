@@ -4,7 +4,3 @@ use Rattle.key_lines.proofs.columns.put_column.Given as goal
 abbrev pub invariant-loop-k : goal.invariant-loop-k
 invariant-loop-k l =
     Placing l.initial.out l.at l.width l.n l.out l.left l.k
-
-abbrev pub decreases-loop-k : goal.decreases-loop-k
-decreases-loop-k l =
-    l.k

@@ -1,23 +1,30 @@
 use native.Mathlib.Omega.{arith}
-use Rattle.layout.proofs.FieldLaws.{u32, got, missed}
-use Rattle.layout_read.proofs.ReadLaws.{header_out}
+use Rattle.layout.proofs.FieldLaws.{got, missed, passed, failed}
+use Rattle.layout_read.proofs.ReadLaws.{header_out, cues_out, header_made}
 use Rattle.layout_read.proofs.block.read_header.Goals as goal
 
-pub returns-in_default : goal.returns-in_default
-returns-in_default c = header_out _ _ (missed u32 c.read_u32-read.ensures c.in_default.is c.number.ensures) (omega arith)
+pub returns-in_err-size : goal.returns-in_err-size
+returns-in_err-size c = header_out _ _ _ _ c.from_residual.ensures.1 (missed c.in_err-size.ensures) (omega arith)
 
-pub returns-in_default-read : goal.returns-in_default-read
-returns-in_default-read c = header_out _ _ (missed u32 c.read_u32-read-2.ensures c.in_default-read.is c.number-in_default-read.ensures) (omega arith)
+pub returns-in_err-end_address : goal.returns-in_err-end_address
+returns-in_err-end_address c = header_out _ _ _ _ c.from_residual-in_err-end_address.ensures.1 (missed c.in_err-end_address.ensures) (omega arith)
 
-pub returns-in_default-read-2 : goal.returns-in_default-read-2
-returns-in_default-read-2 c = header_out _ _ (missed u32 c.read_u32-read-3.ensures c.in_default-read-2.is c.number-in_default-read-2.ensures) (omega arith)
+pub returns-in_err-next_offset : goal.returns-in_err-next_offset
+returns-in_err-next_offset c = header_out _ _ _ _ c.from_residual-in_err-next_offset.ensures.1 (missed c.in_err-next_offset.ensures) (omega arith)
 
-pub read_contexts_on-requires : goal.read_contexts_on-requires
-read_contexts_on-requires c =
-    let x = got u32 c.read_u32-read.ensures c.in-Value.is in
-    let y = got u32 c.read_u32-read-2.ensures c.in-Value-read.is in
-    let z = got u32 c.read_u32-read-3.ensures c.in-Value-read-2.is in
-    record {
-      at_in_bounds = omega (arith, z.inside);
-      size_value = (x.is, (y.is, z.is));
-    }
+pub returns-in_err-left : goal.returns-in_err-left
+returns-in_err-left c = header_out _ _ _ _ c.from_residual-in_err-left.ensures.1 (missed c.in_err-left.ensures) (omega arith)
+
+pub returns-in_err-right : goal.returns-in_err-right
+returns-in_err-right c = header_out _ _ _ _ c.from_residual-in_err-right.ensures.1 (missed c.in_err-right.ensures) (omega arith)
+
+pub returns-in_err-count : goal.returns-in_err-count
+returns-in_err-count c = header_out _ _ _ _ c.from_residual-in_err-count.ensures.1 (missed c.in_err-count.ensures) (omega arith)
+
+pub returns-then-inside : goal.returns-then-inside
+returns-then-inside c =
+    header_made _ _ (got c.in_ok-count.ensures) (got c.in_ok-size.ensures) (got c.in_ok-end_address.ensures) (got c.in_ok-next_offset.ensures)
+    (got c.in_ok-left.ensures) (got c.in_ok-right.ensures) (omega (arith, passed c.inside.ensures c.if-inside.true, c.div_ceil.ensures))
+
+pub returns-else-inside : goal.returns-else-inside
+returns-else-inside c = cues_out _ _ (got c.in_ok-count.ensures) (omega (arith, failed c.inside.ensures c.if-inside.false, c.div_ceil.ensures))

@@ -1,51 +1,63 @@
 use native.Mathlib.Omega.{arith}
-use Rattle.layout.proofs.FieldLaws.{u16, format, got, missed, value_read, number_read}
-use Rattle.layout_read.proofs.ChannelLaws.{beside_refused, channel_short, channel_unknown, channel_known}
+use Rattle.layout.proofs.FieldLaws.{got, missed}
+use Rattle.layout_read.proofs.ChannelLaws.{channel_short, channel_unknown, rest_out, rest-made}
 use Rattle.layout_read.proofs.channels.read_channel.Goals as goal
 
-pub returns-in_default : goal.returns-in_default
-returns-in_default c =
-    let m = missed u16 c.read_u16-read.ensures c.in_default.is c.number.ensures in
-    let all = beside_refused _ _ c.refused.ensures.0 c.refused.ensures.1 (channel_short _ _ m (omega arith)) in
-    record {
-      result_value = all.0;
-      channel_value = all.1;
-    }
+pub returns-in_err-looping : goal.returns-in_err-looping
+returns-in_err-looping c = channel_short _ _ _ _ c.from_residual.ensures.1 (missed c.in_err-looping.ensures) (omega arith)
 
 pub overflow_add-at : goal.overflow_add-at
-overflow_add-at c = let g = got u16 c.read_u16-read.ensures c.in-Value.is in omega (arith, g.inside)
+overflow_add-at c = let g = got c.in_ok-looping.ensures in omega (arith, g.inside)
 
-pub returns-in_default-read : goal.returns-in_default-read
-returns-in_default-read c =
-    let m = missed u16 c.read_u16-read-2.ensures c.in_default-read.is c.number-in_default-read.ensures in
-    let all = beside_refused _ _ c.refused-in_default-read.ensures.0 c.refused-in_default-read.ensures.1 (channel_short _ _ m (omega arith)) in
-    record {
-      result_value = all.0;
-      channel_value = all.1;
-    }
+pub returns-in_err-number : goal.returns-in_err-number
+returns-in_err-number c = channel_short _ _ _ _ c.from_residual-in_err-number.ensures.1 (missed c.in_err-number.ensures) (omega arith)
 
-pub returns-in_default-read-2 : goal.returns-in_default-read-2
-returns-in_default-read-2 c =
-    let g = got u16 c.read_u16-read-2.ensures c.in-Value-read.is in
-    let all = beside_refused _ _ c.refused-in_default-read-2.ensures.0 c.refused-in_default-read-2.ensures.1
-    (channel_unknown _ _ g (number_read format c.format_of-read.ensures c.in_default-read-2.is c.number-in_default-read-2.ensures)) in
-    record {
-      result_value = all.0;
-      channel_value = all.1;
-    }
+pub returns-in_err-format : goal.returns-in_err-format
+returns-in_err-format c = channel_unknown _ _ (got c.in_ok-number.ensures) _ _ c.from_residual-in_err-format.ensures.1 c.in_err-format.ensures
 
-pub read_addresses_on-requires : goal.read_addresses_on-requires
-read_addresses_on-requires c =
-    let g = got u16 c.read_u16-read.ensures c.in-Value.is in
-    let h = got u16 c.read_u16-read-2.ensures c.in-Value-read.is in
-    (omega (arith, h.inside), g.is)
+pub overflow_add-at-2 : goal.overflow_add-at-2
+overflow_add-at-2 c = let g = got c.in_ok-number.ensures in omega (arith, g.inside)
+
+pub returns-in_err-loop_address : goal.returns-in_err-loop_address
+returns-in_err-loop_address c =
+    rest_out _ _ (got c.in_ok-number.ensures) c.in_ok-format.ensures _ _ c.from_residual-in_err-loop_address.ensures.1 (missed c.in_err-loop_address.ensures) (omega arith)
+
+pub overflow_add-at-3 : goal.overflow_add-at-3
+overflow_add-at-3 c = let g = got c.in_ok-loop_address.ensures in omega (arith, g.inside)
+
+pub returns-in_err-end_address : goal.returns-in_err-end_address
+returns-in_err-end_address c =
+    rest_out _ _ (got c.in_ok-number.ensures) c.in_ok-format.ensures _ _ c.from_residual-in_err-end_address.ensures.1 (missed c.in_err-end_address.ensures) (omega arith)
+
+pub overflow_add-at-4 : goal.overflow_add-at-4
+overflow_add-at-4 c = let g = got c.in_ok-end_address.ensures in omega (arith, g.inside)
+
+pub returns-in_err-current_address : goal.returns-in_err-current_address
+returns-in_err-current_address c =
+    rest_out _ _ (got c.in_ok-number.ensures) c.in_ok-format.ensures _ _ c.from_residual-in_err-current_address.ensures.1 (missed c.in_err-current_address.ensures) (omega arith)
+
+pub overflow_add-at-5 : goal.overflow_add-at-5
+overflow_add-at-5 c = let g = got c.in_ok-current_address.ensures in omega (arith, g.inside)
+
+pub returns-in_err-coefficients : goal.returns-in_err-coefficients
+returns-in_err-coefficients c =
+    rest_out _ _ (got c.in_ok-number.ensures) c.in_ok-format.ensures _ _ c.from_residual-in_err-coefficients.ensures.1 (missed c.in_err-coefficients.ensures) (omega arith)
+
+pub overflow_add-at-6 : goal.overflow_add-at-6
+overflow_add-at-6 c = let g = got c.in_ok-coefficients.ensures in omega (arith, g.inside)
+
+pub returns-in_err-gain : goal.returns-in_err-gain
+returns-in_err-gain c =
+    rest_out _ _ (got c.in_ok-number.ensures) c.in_ok-format.ensures _ _ c.from_residual-in_err-gain.ensures.1 (missed c.in_err-gain.ensures) (omega arith)
+
+pub overflow_add-at-7 : goal.overflow_add-at-7
+overflow_add-at-7 c = let g = got c.in_ok-gain.ensures in omega (arith, g.inside)
+
+pub returns-in_err-context : goal.returns-in_err-context
+returns-in_err-context c =
+    rest_out _ _ (got c.in_ok-number.ensures) c.in_ok-format.ensures _ _ c.from_residual-in_err-context.ensures.1 (missed c.in_err-context.ensures) (omega arith)
 
 pub returns : goal.returns
 returns c =
-    let g = got u16 c.read_u16-read-2.ensures c.in-Value-read.is in
-    let all = channel_known _ _ g (value_read format c.format_of-read.ensures c.in-Value-read-2.is)
-    (c.read_addresses_on.ensures.result_value, c.read_addresses_on.ensures.channel_value) in
-    record {
-      result_value = all.0;
-      channel_value = all.1;
-    }
+    rest-made _ _ (got c.in_ok-number.ensures) c.in_ok-format.ensures (got c.in_ok-looping.ensures) (got c.in_ok-loop_address.ensures)
+    (got c.in_ok-end_address.ensures) (got c.in_ok-current_address.ensures) (got c.in_ok-coefficients.ensures) (got c.in_ok-gain.ensures) (got c.in_ok-context.ensures)

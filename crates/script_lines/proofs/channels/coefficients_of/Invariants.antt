@@ -1,11 +1,5 @@
-use Prim.Native.Nat.{◌-◌}
 use Rattle.script_lines.proofs.ChannelLaws.{Reading}
 use Rattle.script_lines.proofs.channels.coefficients_of.Given as goal
 
 abbrev pub invariant-loop-i : goal.invariant-loop-i
-invariant-loop-i l =
-    Reading l.line l.values l.good l.i
-
-abbrev pub decreases-loop-i : goal.decreases-loop-i
-decreases-loop-i l =
-    16 - l.i
+invariant-loop-i l = Reading l.line l.values l.i

@@ -3,4 +3,4 @@ use Rattle.script_lines.proofs.lines.lent_line.Goals as goal
 
 pub returns : goal.returns
 unfolding lent_line
-returns c = rw c.decimal_at-length.ensures.0
+returns c = c.number_at.ensures.0

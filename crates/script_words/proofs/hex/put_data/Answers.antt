@@ -8,12 +8,6 @@ use Rattle.script_words.proofs.DataLaws.{data_length_lem, data_at_lem, count-ins
 use borrow.Author.Rules.{rules}
 use Rattle.script_words.proofs.hex.put_data.Goals as goal
 
-pub returns-then-inside : goal.returns-then-inside
-returns-then-inside c = record {
-  out_after = putting_all c.loop-j.invariant (search rules);
-  value = count-inside _ _ _ (passed c.inside.ensures c.if-inside.true);
-}
-
 pub loop-j-init : goal.loop-j-init
 loop-j-init c = putting_none (data_length_lem _) (passed c.inside.ensures c.if-inside.true)
 
@@ -23,6 +17,12 @@ loop-j-preserved c = rw (
   c.digit-in-loop-j.ensures.0,
   data_at_lem c.args.word.now c.loop-j.j (search rules),
 ) (putting_more c.loop-j.invariant (search rules))
+
+pub returns-then-inside : goal.returns-then-inside
+returns-then-inside c = record {
+  out_after = putting_all c.loop-j.invariant (search rules);
+  value = count-inside _ _ _ (passed c.inside.ensures c.if-inside.true);
+}
 
 pub returns : goal.returns
 returns c =

@@ -1,21 +1,11 @@
-use Rattle.script_words.proofs.TextLaws.{next-none, next-some, next_last}
-use borrow.Author.Rules.{rules}
+use Rattle.script_words.proofs.TextLaws.{rest_from, next-none, next-some, next_last}
 use Rattle.script_words.proofs.text.next_line.Goals as goal
 
-pub returns-then-at-s : goal.returns-then-at-s
-returns-then-at-s c = record {
-  s_value = next-none _ _ c.if-at-s.true;
-  upper_bound = search rules;
-}
+pub returns-then-at-s-clause-s_value : goal.returns-then-at-s-clause-s_value
+returns-then-at-s-clause-s_value c = next-none _ _ c.if-at-s.true
 
-pub returns-then-end-s : goal.returns-then-end-s
-returns-then-end-s c = record {
-  s_value = next-some _ _ c.find-end.ensures;
-  upper_bound = search rules;
-}
+pub returns-in-Some-clause-s_value : goal.returns-in-Some-clause-s_value
+returns-in-Some-clause-s_value c = next-some c.args.s.now c.args.at (rw rest_from at c.in-Some.ensures)
 
-pub returns : goal.returns
-returns c = record {
-  s_value = next_last _ _ c.find-end.ensures (search rules);
-  upper_bound = search rules;
-}
+pub returns-in-None-clause-s_value : goal.returns-in-None-clause-s_value
+returns-in-None-clause-s_value c = next_last c.args.s.now c.args.at (rw rest_from at c.in-None.ensures)

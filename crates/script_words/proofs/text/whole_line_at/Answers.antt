@@ -1,8 +1,8 @@
-use Rattle.script_words.proofs.TextLaws.{line-none, line-some}
+use Rattle.script_words.proofs.TextLaws.{line-some, line-none}
 use Rattle.script_words.proofs.text.whole_line_at.Goals as goal
 
-pub returns-then-at-s : goal.returns-then-at-s
-returns-then-at-s c = line-none _ _ c.if-at-s.true
+pub returns-in-Some : goal.returns-in-Some
+returns-in-Some c = line-some c.args.s.now c.args.at c.min.ensures c.in-Some.ensures
 
-pub returns : goal.returns
-returns c = line-some _ _ c.find-end.ensures
+pub returns-in-None : goal.returns-in-None
+returns-in-None c = line-none c.args.s.now c.args.at c.min.ensures c.in-None.ensures

@@ -1,10 +1,8 @@
-use mathlib.Core.Path.{sym}
-use lib.Seq.{length-take-le}
-use Rattle.script_words.proofs.TextLaws.{comment_at}
+use Rattle.script_words.proofs.TextLaws.{comment_at, no_comment}
 use Rattle.script_words.proofs.text.without_comment.Goals as goal
 
-pub slice_bounds-result-end : goal.slice_bounds-result-end
-slice_bounds-result-end c = sym (length-take-le _ _ c.find-n.ensures.1)
+pub returns-in-Some : goal.returns-in-Some
+returns-in-Some c = comment_at _ c.in-Some.ensures
 
-pub returns : goal.returns
-returns c = comment_at _ c.find-n.ensures.0
+pub returns-in-None : goal.returns-in-None
+returns-in-None c = no_comment _ c.in-None.ensures

@@ -1,0 +1,12 @@
+-- Why a call on lent bytes gives nothing, and its number in the C library.
+use Rattle.std.specs.Prelude.{ℕ}
+use Rattle.c_opened.specs.declared.failure.Failure.{Failure}
+use Rattle.c_opened.specs.declared.failure.Failure.TheVariants.{Refused, End, NoRecord, NoKind, NoRoom, NoSide}
+
+abbrev pub failure_number : Failure → ℕ
+failure_number (Refused n) = n
+failure_number End = 255
+failure_number NoRecord = 254
+failure_number NoKind = 253
+failure_number NoRoom = 252
+failure_number NoSide = 251

@@ -1,9 +1,0 @@
--- What is left of the text grows less.
-use Rattle.std.proofs.Common.{◌-◌, ◌≤◌, length}
-use Rattle.host_io.proofs.host.plain_length.Given as goal
-
-abbrev pub invariant-loop-i : goal.invariant-loop-i
-invariant-loop-i l = l.i ≤ length l.text
-
-abbrev pub decreases-loop-i : goal.decreases-loop-i
-decreases-loop-i l = length l.text - l.i

@@ -2,14 +2,14 @@
 #![tactic(auto)]
 
 ghost use Rattle.std.specs.Prelude.{◌-◌, ◌*◌, ◌≤◌, ◌<◌, ◌≡◌, ◌++◌, length, get_or, take, drop};
-ghost use Rattle.layout.specs.Answers.{context_says};
+ghost use Rattle.layout.specs.Answers.{says};
 ghost use Rattle.layout.specs.Records.{adpcm_bytes, adpcm_samples};
 ghost use Rattle.adpcm_block.specs.Cases.{DecodedCases};
 ghost use Rattle.adpcm_block.specs.Block.{halves, halves_decoded, pair_decoded, block_decoded, decoded_into, context_read, lent_after, SamplesCounted};
 
 use adpcm_sample::next_sample;
 use layout::FrameContext;
-use layout::answers::ContextRead;
+use layout::refusal::Refusal;
 use layout_sizes::{adpcm_bytes, adpcm_samples};
 
 // The half byte of this number, the high half of a byte first.
@@ -109,21 +109,20 @@ pub fn decode_block(
     coefficients: &[i16; 16],
     context: FrameContext,
     samples: &mut [i16],
-) -> ContextRead
-    ensures result_value { context_says result ≡ context_read (decoded_into (length samples.old) coefficients.now context n block.now) }
+) -> Result<FrameContext, Refusal>
+    ensures result_value { says result ≡ context_read (decoded_into (length samples.old) coefficients.now context n block.now) }
     ensures samples_after { samples.new
         ≡ lent_after (decoded_into (length samples.old) coefficients.now context n block.now) samples.old }
 {
     let bytes = adpcm_bytes(n);
     let count = adpcm_samples(n);
     if block.len() < bytes {
-        return ContextRead::Refused(1);
+        return Err(Refusal::SlotEndsEarly);
     }
     if samples.len() < count {
-        return ContextRead::Refused(14);
+        return Err(Refusal::LentTooShort);
     }
-    let after = decode_frames(block, n, coefficients, context, samples);
-    ContextRead::Value(after)
+    Ok(decode_frames(block, n, coefficients, context, samples))
 }
 
 // A block has as many samples as document 01 counts for its length.

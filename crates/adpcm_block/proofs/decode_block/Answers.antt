@@ -39,12 +39,12 @@ room c = omega (arith, c.adpcm_samples-count.ensures, c.if-samples-count.false)
 pub returns : goal.returns
 returns c =
     let a = c.args in
-    let q = c.decode_frames-after in
+    let q = c.decode_frames in
     let all = decoded_fills _ a.coefficients.now a.context a.n a.block.now (whole (goal.at.returns c).Else-block-bytes) (room (goal.at.returns c).Else-samples-count) a.samples.now q.ensures.value q.ensures.samples_after in
     record {
       result_value = all.0;
       samples_after = all.1;
     }
 
-pub decode_frames-after-requires : goal.decode_frames-after-requires
-decode_frames-after-requires c = (whole (goal.at.decode_frames-after-requires c).Else-block-bytes, room (goal.at.decode_frames-after-requires c).Else-samples-count)
+pub decode_frames-requires : goal.decode_frames-requires
+decode_frames-requires c = (whole (goal.at.decode_frames-requires c).Else-block-bytes, room (goal.at.decode_frames-requires c).Else-samples-count)

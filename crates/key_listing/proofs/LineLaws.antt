@@ -20,19 +20,19 @@ use Rattle.key_listing.specs.declared.Stage.{Stage}
 use Rattle.key_listing.specs.declared.listing.Line.{Line}
 use Rattle.key_lines.specs.Lines.{loop_line, cue_line, LinePut}
 use Rattle.key_listing.specs.MarkingKey.{lines_from, listing_from}
-use Rattle.key_listing.specs.Filling.{LineIs, FilledIs, line_or, lines_fitting, lines_beyond, line_fitting, lines_after}
+use Rattle.std.specs.Prelude.{Option, Some, None}
+use Rattle.key_listing.specs.Filling.{LineIs, FilledIs, line_or, length_put, stage_after, lines_fitting, lines_beyond, line_fitting, lines_after}
 use Rattle.key_listing.proofs.ListingLaws.{cues-none, cues_refused, cues_end, cues-loop, cues-point, Sized, sized}
 use Rattle.key_listing.proofs.ListingLaws.{first_fits, fitting_next, beyond_next, full, fitting_beyond, fitting_fits, none_left}
 
 module _ (s : List ℕ) (r : HpsReader) (stage : Stage) (out : List ℕ) (at : ℕ) where
   -- nothing is left
-  pub line_done : (q : Line) → q ≡ record { length = 0; stage = Stage.Done } → lines_from s r stage ≡ [] → LineIs s r stage out at out q
-  unfolding lines_from
-  line_done q e h = rw e (record { long = rw h; put = rw h (sym (put_at-none out at)); rest = rw h })
+  pub line_done : lines_from s r stage ≡ [] → LineIs s r stage out at out None
+  line_done h = record { some = tt; long = rw h; put = rw h (sym (put_at-none out at)); rest = rw h }
 
   -- the next line, put where it fits
   pub line_or_lem : (line : List ℕ) (next : Stage) {after : List ℕ} {n : ℕ} → lines_from s r stage ≡ line ∷ lines_from s r next
-      → LinePut out at line after n → (q : Line) → q ≡ line_or n stage next → LineIs s r stage out at after q
+      → LinePut out at line after n → (q : Option Line) → q ≡ line_or n next → LineIs s r stage out at after q
   unfolding Sized
   line_or_lem line next {after} {n} h p q e =
       let some = (rw h at (sized s r stage)).0.0 in
@@ -42,21 +42,25 @@ module _ (s : List ℕ) (r : HpsReader) (stage : Stage) (out : List ℕ) (at : �
       let t = le-leb (length line) (length out - at) (omega arith) in
       let l : n ≡ length line = p.long ∙ rw f in
       let z = ne_eqb n 0 (λ m. omega arith) in
-      record { long = rw (h, t) l; put = rw (h, t) p.put; rest = rw (h, t, z) })
+      rw z (record { some = omega arith; long = rw (h, t) l; put = rw (h, t) p.put; rest = rw (h, t) }))
       (λ f.
       let i = leb-false (at + length line) (length out) f in
       let t = lt-leb (length line) (length out - at) (omega arith) in
       let l : n ≡ 0 = p.long ∙ rw f in
-      record { long = rw (h, t) l; put = rw (h, t) (p.put ∙ put_at_out out at line i ∙ sym (put_at-none out at)); rest = rw (h, t, eq-eqb n 0 l) h }))
+      rw (eq-eqb n 0 l) (record { some = tt; long = rw (h, t); put = rw (h, t) (p.put ∙ put_at_out out at line i ∙ sym (put_at-none out at)); rest = rw (h, t) })))
 
-module _ (s : List ℕ) (r : HpsReader) (out : List ℕ) (at : ℕ) {after : List ℕ} {q : Line} where
+after_as : (s : List ℕ) (r : HpsReader) (t u : Stage) → lines_from s r t ≡ lines_from s r u → (p : Option Line) → lines_from s r (stage_after t p) ≡ lines_from s r (stage_after u p)
+after_as s r t u e None = e
+after_as s r t u e (Some p) = refl
+
+module _ (s : List ℕ) (r : HpsReader) (out : List ℕ) (at : ℕ) {after : List ℕ} {q : Option Line} where
   -- the stage that it is
   pub stage_as : {t u : Stage} → t ≡ u → LineIs s r u out at after q → LineIs s r t out at after q
   stage_as e l = rw e l
 
   -- two stages with the same lines
   pub lines_as : {t u : Stage} → lines_from s r t ≡ lines_from s r u → LineIs s r u out at after q → LineIs s r t out at after q
-  lines_as e l = record { long = rw e l.long; put = rw e l.put; rest = rw e l.rest }
+  lines_as e l = record { some = l.some; long = rw e l.long; put = rw e l.put; rest = after_as s r _ _ e q ∙ rw e l.rest }
 
   pub cursor_as : {n : ℕ} {c d : CueIterator} → c ≡ d → LineIs s r (Stage.Cues n c) out at after q → LineIs s r (Stage.Cues n d) out at after q
   cursor_as e l = rw (← e) l
@@ -125,7 +129,7 @@ module _ {s : List ℕ} {r : HpsReader} {from : Stage} {before : List ℕ} where
       record { lines = []; long = refl; fits = omega arith; same = refl; is = sym (put_at-none before 0); all = rw z; beyond = rw z }
 
   module _ {out : List ℕ} {stage : Stage} {at : ℕ} (f : Filling s r from before out stage at)
-      {after : List ℕ} {q : Line} (l : LineIs s r stage out at after q) where
+      {after : List ℕ} {q : Option Line} (l : LineIs s r stage out at after q) where
     abbrev ls : List (List ℕ)
     ls = lines_from s r stage
 
@@ -133,20 +137,20 @@ module _ {s : List ℕ} {r : HpsReader} {from : Stage} {before : List ℕ} where
     room = length before - at
 
     -- the line that was put, by the buffer's length at the start
-    long-line : q.length ≡ length (line_fitting room ls)
+    long-line : length_put q ≡ length (line_fitting room ls)
     long-line = l.long ∙ ap (λ (n : ℕ). length (line_fitting (n - at) ls)) f.same
 
     put-line : after ≡ put_at out at (line_fitting room ls)
     put-line = l.put ∙ ap (λ (n : ℕ). put_at out at (line_fitting (n - at) ls)) f.same
 
-    rest-line : lines_from s r q.stage ≡ lines_after room ls
+    rest-line : lines_from s r (stage_after stage q) ≡ lines_after room ls
     rest-line = l.rest ∙ ap (λ (n : ℕ). lines_after (n - at) ls) f.same
 
-    same-room : room - length (line_fitting room ls) ≡ length before - (at + q.length)
+    same-room : room - length (line_fitting room ls) ≡ length before - (at + length_put q)
     same-room = omega (arith, long-line)
 
     -- one line more
-    pub filling-more : Filling s r from before after q.stage (at + q.length)
+    pub filling-more : Filling s r from before after (stage_after stage q) (at + length_put q)
     filling-more =
         let w = line_fitting room ls in
         let k = first_fits room ls in
@@ -165,23 +169,23 @@ module _ {s : List ℕ} {r : HpsReader} {from : Stage} {before : List ℕ} where
               ∙ put_at-next before 0 f.lines w (omega arith);
           all =
               f.all ∙ ap (λ (b : List ℕ). f.lines ++ b) (fitting_next room ls ∙ ap (λ (m : ℕ). w ++ lines_fitting m (lines_after room ls)) same-room
-              ∙ ap (λ (b : List (List ℕ)). w ++ lines_fitting (length before - (at + q.length)) b) (sym rest-line))
-              ∙ sym (append_assoc f.lines w (lines_fitting (length before - (at + q.length)) (lines_from s r q.stage)));
+              ∙ ap (λ (b : List (List ℕ)). w ++ lines_fitting (length before - (at + length_put q)) b) (sym rest-line))
+              ∙ sym (append_assoc f.lines w (lines_fitting (length before - (at + length_put q)) (lines_from s r (stage_after stage q))));
           beyond =
               f.beyond ∙ beyond_next room ls ∙ ap (λ (m : ℕ). lines_beyond m (lines_after room ls)) same-room
-              ∙ ap (lines_beyond (length before - (at + q.length))) (sym rest-line);
+              ∙ ap (lines_beyond (length before - (at + length_put q))) (sym rest-line);
         }
 
     -- no line was put
-    pub filled : q.length ≡ 0 → FilledIs s r from before after (record { length = at; stage = q.stage })
-    filled z =
-        let e : length (line_fitting room ls) ≡ 0 = sym long-line ∙ z in
+    pub filled : q ≡ None → FilledIs s r from before after (record { length = at; stage = stage })
+    filled n =
+        let e : length (line_fitting room ls) ≡ 0 = sym long-line ∙ ap length_put n in
         let u = full room ls (sized s r stage) e in
         let a : lines_fitting (length before) (lines_from s r from) ≡ f.lines = f.all ∙ ap (λ (b : List ℕ). f.lines ++ b) u.put ∙ append-nil f.lines in
         record {
           long = sym f.long ∙ ap length (sym a);
           put = put-line ∙ ap (put_at out at) (none (line_fitting room ls) e) ∙ put_at-none out at ∙ f.is ∙ ap (put_at before 0) (sym a);
-          rest = rest-line ∙ sym u.left ∙ sym f.beyond;
+          rest = ap (λ (p : Option Line). lines_from s r (stage_after stage p)) (sym n) ∙ rest-line ∙ sym u.left ∙ sym f.beyond;
         }
 
 -- ---- What is filled

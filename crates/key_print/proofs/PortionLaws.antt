@@ -3,12 +3,12 @@ use Prim.Native.Nat.{ℕ, ◌+◌, ◌-◌, ◌<◌, ◌≤◌}
 use mathlib.Core.Path.{◌≡◌, refl, ap, sym, ◌∙◌}
 use mathlib.Core.List.{List, ◌++◌, append_assoc, append_cancel_left}
 use native.Mathlib.Omega.{arith}
-use native.Mathlib.Numerals.{add-one}
-use lib.ListN.{length, take, drop, get_or, length-append, length-take, length-drop, get_or-append}
-use lib.Seq.{length-take-le, take_at, take-add, take-take, take-suc, drop-drop, drop-append_seam}
+use lib.ListN.{length, take, drop, length-append, length-take, length-drop}
+use lib.Seq.{length-take-le, take-append-le, take_at, take-add, take-take, drop-drop, drop-append_seam}
 use lib.Dec.{eqb}
-use borrow.Author.Tests.{eqb-true, eqb-false}
-use Rattle.layout.proofs.Cases.{by_cases}
+use lib.Pointwise.{pointwise, bytes_decides}
+use mathlib.Core.Bool.{Bool, true, false, not}
+use Rattle.layout.proofs.Cases.{apart}
 use Rattle.layout.proofs.PutLaws.{put_at_in, put_at-length}
 use Rattle.reader.specs.declared.HpsReader.{HpsReader}
 use Rattle.key_listing.specs.MarkingKey.{lines_from, listing_from}
@@ -17,13 +17,7 @@ use Rattle.key_listing.proofs.LineLaws.{filled-fits, filled-rest, filled_none}
 use Rattle.key_listing.specs.declared.Stage.{Stage}
 use Rattle.key_listing.specs.declared.listing.Line.{Line}
 use Rattle.key_print.specs.declared.Portion.{Portion}
-use Rattle.key_print.specs.Portions.{Held, portion_bytes, still_listed, MoreIs, Common}
-
--- ---- Bytes in common
-
--- one byte more
-pub common_more : (x y : List ℕ) (k : ℕ) → k < length x → k < length y → take k x ≡ take k y → get_or x k 0 ≡ get_or y k 0 → take (k + 1) x ≡ take (k + 1) y
-common_more x y k h i e d = rw (add-one k, take-suc x k 0 h, take-suc y k 0 i, e, d)
+use Rattle.key_print.specs.Portions.{Held, portion_bytes, still_listed, MoreIs}
 
 -- ---- A portion filled
 
@@ -104,10 +98,18 @@ bytes_long {p} {out} h =
     let i = h.inside in
     simp (length-take, length-drop) (omega arith)
 
-pub held_next : {p : Portion} {out : List ℕ} (k : ℕ) → Held p out → k ≤ length (portion_bytes p out) → Held (past p k) out
+pub held_next : {p : Portion} {out : List ℕ} (k : ℕ) → Held p out → k ≤ p.end - p.at → Held (past p k) out
 held_next {p} k h l =
     let o = h.order in
-    record { order = omega (arith, bytes_long h); inside = h.inside }
+    record { order = omega arith; inside = h.inside }
+
+-- its next k bytes, as a slice of the buffer
+next_slice : (p : Portion) (out : List ℕ) (k : ℕ) → k ≤ p.end - p.at → take ((p.at + k) - p.at) (drop p.at out) ≡ take k (portion_bytes p out)
+next_slice p out k h = let e : (p.at + k) - p.at ≡ k = omega arith in rw e (sym (take-take k (p.end - p.at) (drop p.at out) h))
+
+not-false : (b : Bool) → false ≡ not b → b ≡ true
+not-false true e = refl
+not-false false e = cc
 
 module _ (s : List ℕ) (r : HpsReader) (p : Portion) (out : List ℕ) (h : Held p out) where
   -- its bytes are still to be listed
@@ -115,9 +117,10 @@ module _ (s : List ℕ) (r : HpsReader) (p : Portion) (out : List ℕ) (h : Held
   unfolding still_listed
   bytes_left = omega (arith, bytes_long h, length-append (portion_bytes p out) (listing_from s r p.stage))
 
-  first-left : p.at < p.end → get_or (still_listed s r p out) 0 0 ≡ get_or (portion_bytes p out) 0 0
+  -- and come first
+  first-left : (k : ℕ) → k ≤ length (portion_bytes p out) → take k (still_listed s r p out) ≡ take k (portion_bytes p out)
   unfolding still_listed
-  first-left l = get_or-append (portion_bytes p out) (listing_from s r p.stage) 0 0 (omega (arith, bytes_long h))
+  first-left k l = take-append-le k (portion_bytes p out) (listing_from s r p.stage) l
 
   -- its first k bytes, and what is left after them
   passed : (k : ℕ) → k ≤ length (portion_bytes p out) → still_listed s r p out ≡ take k (portion_bytes p out) ++ still_listed s r (past p k) out
@@ -162,25 +165,37 @@ module _ {a b whole whole2 : List ℕ} {r q : HpsReader} {p p2 left right : Port
       let l = ap length (sym (now.on z) ∙ f.ended e) in
       omega (arith, bytes_left b q right other g.held)
 
-  -- no byte is in common
-  pub apart-here : {k : ℕ} → Common (portion_bytes left out) (portion_bytes right other) k → k ≡ 0 → (left.at ≡ left.end → ⊥) → whole ≡ whole2 → ⊥
-  apart-here c k n z =
-      let l = bytes_long f.held in
-      let i = bytes_long g.held in
+  -- the right one alone has
+  pub ended-other : right.at ≡ right.end → (left.at ≡ left.end → ⊥) → whole ≡ whole2 → ⊥
+  ended-other e d z =
       let o = f.held.order in
-      let d = g.held.order in
-      by_cases (eqb right.at right.end)
-      (λ t. let v = ap length (now.on z ∙ g.ended (eqb-true _ _ t)) in omega (arith, bytes_left a r left out f.held))
-      (λ t. let j = eqb-false right.at right.end t in
-      (rw k at c).apart (omega arith) (omega arith) (sym (first-left a r left out f.held (omega arith)) ∙ ap (λ (v : List ℕ). get_or v 0 0) (now.on z)
-      ∙ first-left b q right other g.held (omega arith)))
+      let l = ap length (now.on z ∙ g.ended e) in
+      omega (arith, bytes_left a r left out f.held)
 
-  module _ (k : ℕ) (c : Common (portion_bytes left out) (portion_bytes right other) k) where
-    -- the bytes in common are passed
-    pub alike_next : Alike whole whole2 (still_listed a r (past left k) out) (still_listed b q (past right k) other)
-    alike_next =
-        let x = passed a r left out f.held k c.here in
-        let y = rw (← c.same) at (passed b q right other g.held k c.there) in
+  module _ (k : ℕ) (h : k ≤ left.end - left.at) (i : k ≤ right.end - right.at) where
+    here : k ≤ length (portion_bytes left out)
+    here = omega (arith, bytes_long f.held)
+
+    there : k ≤ length (portion_bytes right other)
+    there = omega (arith, bytes_long g.held)
+
+    abbrev differ : Bool
+    differ = not (pointwise eqb (take ((left.at + k) - left.at) (drop left.at out)) (take ((right.at + k) - right.at) (drop right.at other)))
+
+    -- their next k bytes differ
+    pub apart-here : true ≡ differ → whole ≡ whole2 → ⊥
+    apart-here d z =
+        let e : take k (portion_bytes left out) ≡ take k (portion_bytes right other) =
+        sym (first-left a r left out f.held k here) ∙ ap (take k) (now.on z) ∙ first-left b q right other g.held k there in
+        apart (rw ((bytes_decides _ _).1 (next_slice left out k h ∙ e ∙ sym (next_slice right other k i))) at d)
+
+    -- they are the same, and are passed
+    pub alike_next : false ≡ differ → Alike whole whole2 (still_listed a r (past left k) out) (still_listed b q (past right k) other)
+    alike_next d =
+        let e : take k (portion_bytes left out) ≡ take k (portion_bytes right other) =
+        sym (next_slice left out k h) ∙ (bytes_decides _ _).0 (not-false _ d) ∙ next_slice right other k i in
+        let x = passed a r left out f.held k here in
+        let y = rw (← e) at (passed b q right other g.held k there) in
         record {
           back = λ e. now.back (x ∙ ap (λ (l : List ℕ). take k (portion_bytes left out) ++ l) e ∙ sym y);
           on = λ e. append_cancel_left (take k (portion_bytes left out)) _ _ (sym x ∙ now.on e ∙ y);
@@ -188,9 +203,9 @@ module _ {a b whole whole2 : List ℕ} {r q : HpsReader} {p p2 left right : Port
 
     pub less_left : (k ≡ 0 → ⊥) → length (still_listed a r (past left k) out) < length (still_listed a r p m)
     less_left n =
-        let v = length-take-le k (portion_bytes left out) c.here in
+        let v = length-take-le k (portion_bytes left out) here in
         let y = ap length f.same in
-        omega (arith, simp length-append at (ap length (passed a r left out f.held k c.here)))
+        omega (arith, simp length-append at (ap length (passed a r left out f.held k here)))
 
 -- Both are refused with the same number.
 pub same-stops : {x y : Stage} {n m : ℕ} → x ≡ Stage.Stop n → y ≡ Stage.Stop m → n ≡ m → (s t : List ℕ) (r q : HpsReader)

@@ -1,27 +1,17 @@
 -- A refusal's line in its room.
 use Prim.Native.Nat.{ℕ, ◌+◌, ◌≤◌}
-use mathlib.Core.Path.{◌≡◌, sym, ap, ◌∙◌}
+use mathlib.Core.Path.{◌≡◌, sym, ◌∙◌}
 use mathlib.Core.List.{List}
 use native.Mathlib.Omega.{arith}
 use lib.ListN.{length, take, length-append}
 use lib.Seq.{take_at}
-use lib.Dec.{leb}
-use borrow.Author.Tests.{le-leb, leb-true}
-use Rattle.layout.proofs.Cases.{by_cases}
-use Rattle.layout.proofs.PutLaws.{put_at_in, put_at-length}
+use borrow.Author.Tests.{le-leb}
+use Rattle.layout.proofs.PutLaws.{put_at_in}
 use Rattle.key_lines.specs.Lines.{stop_line, LinePut}
 use Rattle.key_lines.proofs.ColumnLaws.{column-length}
 
 stop-length : (k : ℕ) → length (stop_line k) ≡ 16
 stop-length k = simp length-append (omega (arith, column-length 11 k))
-
--- a line that was put lies inside, whichever it is
-pub line-inside : {out bytes after : List ℕ} {at n : ℕ} → LinePut out at bytes after n → n ≤ length after
-line-inside {out} {bytes} {after} {at} {n} p =
-    let same : length after ≡ length out = ap length p.put ∙ put_at-length out at bytes in
-    by_cases (leb (at + length bytes) (length out))
-    (λ t. let h = leb-true (at + length bytes) (length out) t in let k : n ≡ length bytes = rw t at p.long in omega (arith, same, h, k))
-    (λ t. let k : n ≡ 0 = rw t at p.long in omega (arith, k))
 
 -- the room is the line
 module _ {out after : List ℕ} (k : ℕ) {n : ℕ} (p : LinePut out 0 (stop_line k) after n) (room : length out ≡ 16) where

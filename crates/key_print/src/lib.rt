@@ -7,28 +7,22 @@ ghost use Rattle.reader.specs.OpeningAndReading.{Readable};
 ghost use Rattle.reader.specs.declared.HpsReader.{HpsReader};
 ghost use Rattle.key_lines.specs.Lines.{stop_line};
 ghost use Rattle.key_listing.specs.MarkingKey.{listing, listing_from};
-ghost use Rattle.key_print.specs.Portions.{PrintedOf, Held, MoreIs, Common};
+ghost use Rattle.key_print.specs.Portions.{PrintedOf, Held, MoreIs};
 
-use host_io::{large_buffer, write_all};
+use host_io::{LARGE, write_all, zeros};
 use key_lines::put_stop;
 use key_listing::Stage;
 use key_listing::listing::fill;
 use key_listing::start::start_listing;
+use layout::limits::KEY_LIMIT;
 use reader::HpsReader;
 use std::io::Write;
 
 // Room for a slot: one byte more than is listed, so that a longer slot is seen to be longer.
-pub fn slot_room() -> [u8; 65537]
+pub fn slot_room() -> [u8; KEY_LIMIT + 1]
     ensures { result ≡ replicate 65537 0 }
 {
-    [0; 65537]
-}
-
-// How many bytes of a listing were handed to the system, and whether it took them all.
-#[derive(Clone, Copy)]
-pub struct Printed {
-    pub length: usize,
-    pub whole: bool,
+    zeros()
 }
 
 // What is handed to the system is the listing from this byte on: slot and number are there for the premise alone.
@@ -38,31 +32,25 @@ fn write_lines<W: Write>(to: &mut W, s: &[u8], from: usize, bytes: &[u8]) -> boo
     write_all(to, bytes)
 }
 
-// Prints the listing of a slot, up to the portion of which the system does not take all.
-pub fn print_listing<W: Write>(to: &mut W, s: &[u8]) -> Printed
+// Prints the listing of a slot, up to the portion of which the system does not take all: how many bytes of it the system was handed, as an Err where it did not
+// take them all.
+pub fn print_listing<W: Write>(to: &mut W, s: &[u8]) -> Result<usize, usize>
     ensures { PrintedOf (listing s.now) result }
 {
     let start = start_listing(s);
-    let r = start.reader;
     let mut stage = start.stage;
-    let mut length: usize = 0;
-    let mut out = large_buffer();
+    let mut length = 0;
+    let mut out = zeros::<LARGE>();
     loop {
-        let filled = fill(s, r, stage, &mut out);
+        let filled = fill(s, start.reader, stage, &mut out);
         let n = filled.length;
         if n == 0 {
-            return Printed {
-                length,
-                whole: true,
-            };
+            return Ok(length);
         }
         let all = write_lines(to, s, length, &out[..n]);
         length += n;
         if !all {
-            return Printed {
-                length,
-                whole: false,
-            };
+            return Err(length);
         }
         stage = filled.stage;
     }
@@ -104,32 +92,12 @@ fn more(s: &[u8], r: HpsReader, p: Portion, out: &mut [u8]) -> Portion
     if p.at < p.end {
         return p;
     }
-    let stage = p.stage;
-    let filled = fill(s, r, stage, out);
-    let next = filled.stage;
-    let end = filled.length;
+    let filled = fill(s, r, p.stage, out);
     Portion {
-        stage: next,
+        stage: filled.stage,
         at: 0,
-        end,
+        end: filled.length,
     }
-}
-
-// How many bytes, from their start, two slices have in common.
-fn common(x: &[u8], y: &[u8]) -> usize
-    ensures { Common x.now y.now result }
-{
-    let mut k: usize = 0;
-    while k < x.len() {
-        if k == y.len() {
-            return k;
-        }
-        if x[k] != y[k] {
-            return k;
-        }
-        k += 1;
-    }
-    k
 }
 
 // The room for a portion: any number from 60, the longest line, would do.
@@ -151,24 +119,23 @@ fn same_lines(a: &[u8], r: HpsReader, here: Stage, b: &[u8], q: HpsReader, there
         at: 0,
         end: 0,
     };
-    let mut out: [u8; PORTION] = [0; PORTION];
-    let mut other: [u8; PORTION] = [0; PORTION];
+    let mut out = zeros::<PORTION>();
+    let mut other = zeros::<PORTION>();
     loop {
         left = more(a, r, left, &mut out);
         right = more(b, q, right, &mut other);
-        let i = left.at;
-        let n = left.end;
-        let j = right.at;
-        let m = right.end;
-        if i == n {
-            return j == m;
+        if left.at == left.end {
+            return right.at == right.end;
         }
-        let k = common(&out[i..n], &other[j..m]);
-        if k == 0 {
+        if right.at == right.end {
             return false;
         }
-        left.at = i + k;
-        right.at = j + k;
+        let k = (left.end - left.at).min(right.end - right.at);
+        if out[left.at..left.at + k] != other[right.at..right.at + k] {
+            return false;
+        }
+        left.at += k;
+        right.at += k;
     }
 }
 
@@ -176,13 +143,11 @@ fn same_lines(a: &[u8], r: HpsReader, here: Stage, b: &[u8], q: HpsReader, there
 fn same_stop(here: Stage, there: Stage) -> bool
     ensures { result ≡ true → (s t : List ℕ) (r q : HpsReader) → listing_from s r here ≡ listing_from t q there }
 {
-    let Stage::Stop(number) = here else {
-        return false;
-    };
-    let Stage::Stop(other) = there else {
-        return false;
-    };
-    number == other
+    if let (Stage::Stop(number), Stage::Stop(other)) = (here, there) {
+        number == other
+    } else {
+        false
+    }
 }
 
 // Whether two slots have the same listing.
@@ -191,12 +156,6 @@ pub fn same_listing(a: &[u8], b: &[u8]) -> bool
 {
     let left = start_listing(a);
     let right = start_listing(b);
-    let here = left.stage;
-    let there = right.stage;
-    if same_stop(here, there) {
-        return true;
-    }
-    let r = left.reader;
-    let q = right.reader;
-    same_lines(a, r, here, b, q, there)
+    same_stop(left.stage, right.stage)
+        || same_lines(a, left.reader, left.stage, b, right.reader, right.stage)
 }

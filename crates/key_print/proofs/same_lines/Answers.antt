@@ -1,42 +1,39 @@
-use mathlib.Core.Path.{sym}
-use native.Mathlib.Omega.{arith}
-use borrow.Author.Tests.{eqb-true, eqb-false}
-use Rattle.layout.proofs.Cases.{apart}
-use Rattle.key_print.proofs.PortionLaws.{alike_start, alike_next, held_next, ended-both, ended-one, apart-here, less_left}
-use borrow.Author.Rules.{rules}
+use Rattle.std.proofs.Common.{arith, rules}
+use borrow.Author.Tests.{eqb-false}
+use Rattle.key_print.proofs.PortionLaws.{alike_start, alike_next, held_next, ended-one, ended-other, apart-here, less_left}
 use Rattle.key_print.proofs.same_lines.Goals as goal
 
-pub loop-r-init : goal.loop-r-init
-loop-r-init c = (
+pub loop-left-init : goal.loop-left-init
+loop-left-init c = (
   alike_start _ _ _ _ _ _ _ _ (omega arith) (omega arith),
   ((record { order = omega arith; inside = omega arith }, record { order = omega arith; inside = omega arith }), (search rules, search rules)),
 )
 
-pub returns-then-i-n : goal.returns-then-i-n
-returns-then-i-n c =
-    let p = c.loop-r.invariant.0 in
-    record {
-      here_value = λ t. ended-both p c.more-left.ensures c.more-right.ensures c.if-i-n.true (eqb-true _ _ t);
-      fact = λ t. ended-one p c.more-left.ensures c.more-right.ensures c.if-i-n.true (eqb-false _ _ t);
-    }
+pub returns-then-left-clause-fact : goal.returns-then-left-clause-fact
+returns-then-left-clause-fact c =
+    λ t. ended-one c.loop-left.invariant.0 c.more-left.ensures c.more-right.ensures c.if-left.true (eqb-false _ _ t)
 
-pub returns-then-k-eq0 : goal.returns-then-k-eq0
-returns-then-k-eq0 c =
-    record {
-      here_value = λ t. apart (sym t);
-      fact = λ t. apart-here c.loop-r.invariant.0 c.more-left.ensures c.more-right.ensures c.common-k.ensures c.if-k-eq0.true c.if-i-n.false;
-    }
+pub returns-then-right-clause-fact : goal.returns-then-right-clause-fact
+returns-then-right-clause-fact c =
+    λ t. ended-other c.loop-left.invariant.0 c.more-left.ensures c.more-right.ensures c.if-right.true c.if-left.false
 
-pub loop-r-smaller : goal.loop-r-smaller
-loop-r-smaller c =
-    less_left c.loop-r.invariant.0 c.more-left.ensures c.more-right.ensures c.common-k.result c.common-k.ensures c.if-k-eq0.false
+pub returns-then-ne-clause-fact : goal.returns-then-ne-clause-fact
+returns-then-ne-clause-fact c =
+    λ t. apart-here c.loop-left.invariant.0 c.more-left.ensures c.more-right.ensures c.min-k.result (omega (arith, c.min-k.ensures)) (omega (arith, c.min-k.ensures)) c.if-ne.ensures
 
-pub loop-r-preserved : goal.loop-r-preserved
-loop-r-preserved c =
-    let k = c.common-k in (
-      alike_next c.loop-r.invariant.0 c.more-left.ensures c.more-right.ensures k.result k.ensures,
+pub loop-left-smaller : goal.loop-left-smaller
+loop-left-smaller c =
+    let l = c.more-left.ensures.held.order in
+    let r = c.more-right.ensures.held.order in
+    less_left c.loop-left.invariant.0 c.more-left.ensures c.more-right.ensures c.min-k.result (omega (arith, c.min-k.ensures)) (omega (arith, c.min-k.ensures))
+    (λ z. omega (arith, c.min-k.ensures, c.if-left.false, c.if-right.false))
+
+pub loop-left-preserved : goal.loop-left-preserved
+loop-left-preserved c =
+    let k = c.min-k.result in (
+      alike_next c.loop-left.invariant.0 c.more-left.ensures c.more-right.ensures k (omega (arith, c.min-k.ensures)) (omega (arith, c.min-k.ensures)) c.if-ne.ensures,
       (
-        (held_next k.result c.more-left.ensures.held k.ensures.here, held_next k.result c.more-right.ensures.held k.ensures.there),
+        (held_next k c.more-left.ensures.held (omega (arith, c.min-k.ensures)), held_next k c.more-right.ensures.held (omega (arith, c.min-k.ensures))),
         (search rules, search rules),
       ),
     )

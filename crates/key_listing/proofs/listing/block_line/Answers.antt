@@ -1,7 +1,4 @@
-use Prim.Native.Nat.{◌<◌}
-use mathlib.Core.Path.{refl, ap}
-use native.Mathlib.Omega.{arith}
-use lib.ListN.{length}
+use Rattle.std.proofs.Common.{◌<◌, length, ap, arith}
 use Rattle.layout.specs.Records.{no_channel}
 use Rattle.layout.specs.declared.Channel.{Channel}
 use Rattle.reader.proofs.HeaderLaws.{header-got, header_short}
@@ -14,7 +11,7 @@ use Rattle.key_listing.proofs.listing.block_line.Goals as goal
 pub returns-in_default : goal.returns-in_default
 returns-in_default c =
     let a = c.args in
-    line_done a.s.now a.r (Stage.Blocks a.i) a.out.now a.at _ refl
+    line_done a.s.now a.r (Stage.Blocks a.i) a.out.now a.at
     (block_short a.s.now a.r (shaped a.r _ c.well_formed.1.0).offsets c.requires.0.blocks a.i
     c.requires.1 _ (header_short _ _ c.read_header.ensures c.in_default.is))
 

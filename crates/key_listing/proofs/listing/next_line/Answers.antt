@@ -1,5 +1,4 @@
-use mathlib.Core.Path.{refl}
-use native.Mathlib.Omega.{arith}
+use Rattle.std.proofs.Common.{arith}
 use Rattle.reader.proofs.RecordLaws.{shaped}
 use Rattle.key_listing.specs.declared.Stage.{Stage}
 use Rattle.key_listing.proofs.ListingLaws.{stop-rest, head-rest, done_rest, blocks_past}
@@ -11,37 +10,25 @@ returns-in-Stop c =
     let a = c.args in
     stage_as a.s.now a.r a.out.now a.at c.in-Stop.is
     (line_or_lem a.s.now a.r (Stage.Stop _) a.out.now a.at _ _ (stop-rest a.s.now a.r _)
-    c.put_stop-n.ensures _ c.put_or.ensures)
+    c.put_stop.ensures _ c.put_or.ensures)
 
 pub returns-in-Head : goal.returns-in-Head
 returns-in-Head c =
     let a = c.args in
     stage_as a.s.now a.r a.out.now a.at c.in-Head.is
     (line_or_lem a.s.now a.r Stage.Head a.out.now a.at _ _ (head-rest a.s.now a.r)
-    c.put_head-n.ensures _ c.put_or-in-Head.ensures)
+    c.put_head.ensures _ c.put_or-in-Head.ensures)
 
-pub returns-then-i-r : goal.returns-then-i-r
-returns-then-i-r c =
+pub returns-in-Blocks-2 : goal.returns-in-Blocks-2
+returns-in-Blocks-2 c =
     let a = c.args in
-    stage_as a.s.now a.r a.out.now a.at c.in-Blocks.is
-    c.block_line.ensures
-
-pub returns-else-i-r : goal.returns-else-i-r
-returns-else-i-r c =
-    let a = c.args in
-    let e = blocks_past a.s.now a.r (shaped a.r _ c.well_formed.1.0).offsets c.requires.blocks
-    c.in-Blocks.i (omega arith) in
+    let e = blocks_past a.s.now a.r (shaped a.r _ c.well_formed.1.0).offsets c.requires.blocks c.in-Blocks.i (omega arith) in
     stage_as a.s.now a.r a.out.now a.at c.in-Blocks.is
     (lines_as a.s.now a.r a.out.now a.at e
-    (cursor_as a.s.now a.r a.out.now a.at c.first_cursor-c.ensures c.cue_line.ensures))
-
-pub returns-in-Cues : goal.returns-in-Cues
-returns-in-Cues c =
-    let a = c.args in
-    stage_as a.s.now a.r a.out.now a.at c.in-Cues.is c.cue_line-in-Cues.ensures
+    (cursor_as a.s.now a.r a.out.now a.at c.first_cursor.ensures c.cue_line.ensures))
 
 pub returns-in-Done : goal.returns-in-Done
 returns-in-Done c =
     let a = c.args in
     stage_as a.s.now a.r a.out.now a.at c.in-Done.is
-    (line_done a.s.now a.r Stage.Done a.out.now a.at _ refl (done_rest a.s.now a.r))
+    (line_done a.s.now a.r Stage.Done a.out.now a.at (done_rest a.s.now a.r))

@@ -10,17 +10,19 @@ use borrow.Author.Tests.{lt-leb, le-leb, leb-true, leb-false, eq-eqb, ne_eqb}
 use lib.Seq.{length-take-le}
 use Rattle.layout.specs.Puts.{put_at}
 use Rattle.layout.proofs.PutLaws.{put_at-none, put_at_out, put_at-next, put_at-length}
-use Rattle.reader.specs.CuesReadBack.{CueAnswer, cue_step}
+use Rattle.reader.specs.CuesReadBack.{CueStep, cue_step}
 use Rattle.reader.specs.declared.HpsReader.{HpsReader}
 use Rattle.reader.specs.declared.CueIterator.{CueIterator}
-use Rattle.reader_cues.specs.CueAnswers.{cue_reply, cue_call}
-use Rattle.reader_cues.specs.declared.CueReply.{CueReply}
+use Rattle.reader_cues.specs.CueAnswers.{cue_says, cue_called}
+use Rattle.reader_cues.specs.declared.ReadCue.{ReadCue}
+use Rattle.layout.specs.Answers.{number_of}
+use Rattle.layout.specs.declared.refusal.Refusal.{Refusal}
 use Rattle.reader_cues.specs.declared.CueCall.{CueCall}
 use Rattle.key_listing.specs.declared.Stage.{Stage}
 use Rattle.key_listing.specs.declared.listing.Line.{Line}
 use Rattle.key_lines.specs.Lines.{loop_line, cue_line, LinePut}
 use Rattle.key_listing.specs.MarkingKey.{lines_from, listing_from}
-use Rattle.std.specs.Prelude.{Option, Some, None}
+use Rattle.std.specs.Prelude.{Option, Some, None, Result, Ok, Err}
 use Rattle.key_listing.specs.Filling.{LineIs, FilledIs, line_or, length_put, stage_after, lines_fitting, lines_beyond, line_fitting, lines_after}
 use Rattle.key_listing.proofs.ListingLaws.{cues-none, cues_refused, cues_end, cues-loop, cues-point, Sized, sized}
 use Rattle.key_listing.proofs.ListingLaws.{first_fits, fitting_next, beyond_next, full, fitting_beyond, fitting_fits, none_left}
@@ -73,38 +75,25 @@ some n h = omega arith
 pub cues_gone : (s : List ℕ) (r : HpsReader) (n : ℕ) (c : CueIterator) → n ≡ 0 → lines_from s r (Stage.Cues n c) ≡ []
 cues_gone s r n c e = ap (λ (m : ℕ). lines_from s r (Stage.Cues m c)) e ∙ cues-none s r c
 
--- the answer that a reply stands for
-abbrev answer_of : CueReply → CueAnswer
-answer_of (CueReply.Refused n) = CueAnswer.refused n
-answer_of CueReply.End = CueAnswer.ended
-answer_of (CueReply.Loop b) = CueAnswer.loop b
-answer_of (CueReply.Point b k) = CueAnswer.point b k
-
-answer_back : (a : CueAnswer) → answer_of (cue_reply a) ≡ a
-answer_back (CueAnswer.refused n) = refl
-answer_back CueAnswer.ended = refl
-answer_back (CueAnswer.loop b) = refl
-answer_back (CueAnswer.point b k) = refl
-
-module _ (s : List ℕ) (r : HpsReader) (n : ℕ) (c : CueIterator) (some : 0 < n) (call : CueCall) (e : call ≡ cue_call (cue_step s r c)) where
-  answer : (q : CueReply) → call.reply ≡ q → (cue_step s r c).answer ≡ answer_of q
-  answer q h = sym (answer_back (cue_step s r c).answer) ∙ ap answer_of (sym (ap (λ (x : CueCall). x.reply) e) ∙ h)
+module _ (s : List ℕ) (r : HpsReader) (n : ℕ) (c : CueIterator) (some : 0 < n) (call : CueCall) (e : cue_called call ≡ cue_step s r c) where
+  answer : {q : Result (Option ReadCue) Refusal} → call.answer ≡ q → (cue_step s r c).answer ≡ cue_says q
+  answer h = sym (ap (λ (x : CueStep). x.answer) e) ∙ ap cue_says h
 
   cursor-is : (cue_step s r c).after ≡ call.cursor
-  cursor-is = sym (ap (λ (x : CueCall). x.cursor) e)
+  cursor-is = sym (ap (λ (x : CueStep). x.after) e)
 
-  pub after_refused : (k : ℕ) → call.reply ≡ CueReply.Refused k → lines_from s r (Stage.Cues n c) ≡ []
-  after_refused k h = cues_refused s r n c some k (answer _ h)
+  pub after_refused : (k : Refusal) → call.answer ≡ Err k → lines_from s r (Stage.Cues n c) ≡ []
+  after_refused k h = cues_refused s r n c some (number_of k) (answer h)
 
-  pub after_end : call.reply ≡ CueReply.End → lines_from s r (Stage.Cues n c) ≡ []
-  after_end h = cues_end s r n c some (answer _ h)
+  pub after_end : call.answer ≡ Ok None → lines_from s r (Stage.Cues n c) ≡ []
+  after_end h = cues_end s r n c some (answer h)
 
-  pub after-loop : (b : ℕ) → call.reply ≡ CueReply.Loop b → lines_from s r (Stage.Cues n c) ≡ loop_line b ∷ lines_from s r (Stage.Cues (n - 1) call.cursor)
-  after-loop b h = cues-loop s r n c some b (answer _ h) ∙ ap (λ (x : CueIterator). loop_line b ∷ lines_from s r (Stage.Cues (n - 1) x)) cursor-is
+  pub after-loop : (b : ℕ) → call.answer ≡ Ok (Some (ReadCue.Loop b)) → lines_from s r (Stage.Cues n c) ≡ loop_line b ∷ lines_from s r (Stage.Cues (n - 1) call.cursor)
+  after-loop b h = cues-loop s r n c some b (answer h) ∙ ap (λ (x : CueIterator). loop_line b ∷ lines_from s r (Stage.Cues (n - 1) x)) cursor-is
 
-  pub after-point : (b k : ℕ) → call.reply ≡ CueReply.Point b k
+  pub after-point : (b k : ℕ) → call.answer ≡ Ok (Some (ReadCue.Point b k))
       → lines_from s r (Stage.Cues n c) ≡ cue_line b k ∷ lines_from s r (Stage.Cues (n - 1) call.cursor)
-  after-point b k h = cues-point s r n c some b k (answer _ h) ∙ ap (λ (x : CueIterator). cue_line b k ∷ lines_from s r (Stage.Cues (n - 1) x)) cursor-is
+  after-point b k h = cues-point s r n c some b k (answer h) ∙ ap (λ (x : CueIterator). cue_line b k ∷ lines_from s r (Stage.Cues (n - 1) x)) cursor-is
 
 -- ---- Filling
 

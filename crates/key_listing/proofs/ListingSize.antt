@@ -9,12 +9,11 @@ use Rattle.layout.specs.Records.{Read, on, read_header, length_in}
 use Rattle.layout.specs.Refusals.{key_limit, block_limit}
 use Rattle.layout.specs.declared.BlockHeader.{BlockHeader}
 use Rattle.layout.proofs.Cases.{by_cases}
-use Rattle.reader.specs.OpeningAndReading.{Opened, opening, Readable, channel_in, offsets_from}
-use Rattle.reader.specs.ReaderAnswers.{open_call}
+use Rattle.reader.specs.OpeningAndReading.{Opened, opening, channel_in, offsets_from}
 use Rattle.reader.specs.CuesReadBack.{CueAnswer, first_cursor, cue_step}
 use Rattle.reader.specs.declared.HpsReader.{HpsReader}
 use Rattle.reader.specs.declared.CueIterator.{CueIterator}
-use Rattle.reader.proofs.OpenedLaws.{and_readable}
+use Rattle.reader.proofs.OpenedLaws.{opened_readable}
 use Rattle.key_lines.specs.Lines.{block_line}
 use Rattle.key_listing.specs.MarkingKey.{on_cue, cue_calls, cue_lines, block_lines, opened_lines, on_opened, listing_lines, lines_from, listing}
 use Rattle.key_listing.specs.declared.Stage.{Stage}
@@ -50,11 +49,11 @@ count_blocks s r i (o ∷ os) = of (read_header s o) (count_blocks s r (i + 1) o
     of (Read.refused n) m = omega arith
     of (Read.value h) m = omega arith
 
-count-opened : (s : List ℕ) (o : Opened) → Readable (open_call o).reader → length (on_opened s o) ≤ 1 + block_limit + cue_calls
+count-opened : (s : List ℕ) (o : Opened) → opening s ≡ o → length (on_opened s o) ≤ 1 + block_limit + cue_calls
 unfolding opened_lines
-count-opened s (Opened.refused n) g = omega arith
-count-opened s (Opened.opened r) g =
-    let few = g.blocks in
+count-opened s (Opened.refused n) e = omega arith
+count-opened s (Opened.opened r) e =
+    let few = (opened_readable s r e).blocks in
     let many : length (offsets_from r 0) ≤ r.blocks = simp (length-drop, length-take) (omega arith) in
     omega (arith, count_blocks s r 0 (offsets_from r 0))
 
@@ -63,7 +62,7 @@ unfolding listing_lines
 count_lines s =
     by_cases (ltb key_limit (length s))
     (λ t. rw t (omega arith))
-    (λ t. rw t (count-opened s (opening s) (and_readable s (open_call (opening s)) refl).1))
+    (λ t. rw t (count-opened s (opening s) refl))
 
 -- ---- And bytes
 

@@ -1,14 +1,14 @@
 // The listing, line by line, and as much of it as a lent buffer holds.
 ghost use Rattle.std.specs.Prelude.{◌≡◌, ◌<◌};
 ghost use Rattle.reader.specs.OpeningAndReading.{Readable};
+ghost use Rattle.key_listing.specs.declared.Stage.{Stage};
 ghost use Rattle.key_listing.specs.Filling.{line_or, LineIs, FilledIs};
 
 use crate::Stage;
 use key_lines::{put_block, put_cue, put_head, put_loop, put_stop};
-use layout::answers::HeaderRead;
 use layout_read::block::read_header;
 use reader::{CueIterator, HpsReader};
-use reader_cues::{CueReply, first_cursor, next_cue};
+use reader_cues::{ReadCue, first_cursor, next_cue};
 
 // As many cue calls as an opened slot can need: 512 blocks of 255 cues, the Loop and the end.
 const CUE_CALLS: usize = 130562;
@@ -30,17 +30,16 @@ fn put_or(n: usize, next: Stage) -> Option<Line>
     })
 }
 
-ghost use Rattle.key_listing.specs.declared.Stage.{Stage};
-
 // The line of block i.
 fn block_line(s: &[u8], r: HpsReader, i: usize, out: &mut [u8], at: usize) -> Option<Line>
     requires { Readable r × (i < r.blocks) }
     ensures { LineIs s.now r (Stage.Blocks i) out.old at out.new result }
 {
-    let HeaderRead::Value(header) = read_header(s, r.offsets[i]) else {
+    let offset = r.offsets[i];
+    let Ok(header) = read_header(s, offset) else {
         return None;
     };
-    let n = put_block(out, at, r.channels[0].format, i, r.offsets[i], header);
+    let n = put_block(out, at, r.channels[0].format, i, offset, header);
     put_or(n, Stage::Blocks(i + 1))
 }
 
@@ -60,10 +59,13 @@ fn cue_line(
         return None;
     }
     let call = next_cue(s, r, c);
-    let n = match call.reply {
-        CueReply::Loop(start) => put_loop(out, at, start),
-        CueReply::Point(start, id) => put_cue(out, at, start, id),
-        CueReply::Refused(_) | CueReply::End => return None,
+    let Ok(answer) = call.answer else {
+        return None;
+    };
+    let cue = answer?;
+    let n = match cue {
+        ReadCue::Loop(start) => put_loop(out, at, start),
+        ReadCue::Point(start, id) => put_cue(out, at, start, id),
     };
     put_or(n, Stage::Cues(calls - 1, call.cursor))
 }
@@ -74,7 +76,7 @@ fn next_line(s: &[u8], r: HpsReader, stage: Stage, out: &mut [u8], at: usize) ->
     ensures { LineIs s.now r stage out.old at out.new result }
 {
     match stage {
-        Stage::Stop(number) => put_or(put_stop(out, at, number), Stage::Done),
+        Stage::Stop(refusal) => put_or(put_stop(out, at, u32::from(refusal)), Stage::Done),
         Stage::Head => put_or(put_head(out, at, r), Stage::Blocks(0)),
         Stage::Blocks(i) if i < r.blocks => block_line(s, r, i, out, at),
         Stage::Blocks(_) => cue_line(s, r, CUE_CALLS, first_cursor(r), out, at),

@@ -1,12 +1,13 @@
 // The listing of a slot from its start.
-ghost use Rattle.std.specs.Prelude.{◌≡◌};
+ghost use Rattle.std.specs.Prelude.{◌≡◌, IfOk};
 ghost use Rattle.reader.specs.OpeningAndReading.{Readable};
-ghost use Rattle.key_listing.specs.MarkingKey.{listing_lines, lines_from};
+ghost use Rattle.reader.specs.ReaderAnswers.{opened_says};
+ghost use Rattle.key_listing.specs.MarkingKey.{on_opened, listing_lines, lines_from};
 
 use crate::Stage;
 use layout::limits::KEY_LIMIT;
-use reader::HpsReader;
-use reader::answers::OpenReply;
+use layout::refusal::Refusal;
+use reader::{HpsReader, no_reader};
 use reader_open::open;
 
 #[derive(Clone, Copy)]
@@ -15,25 +16,29 @@ pub struct Listing {
     pub reader: HpsReader,
 }
 
+// The slot opened, where it is no longer than what is listed.
+fn opened(s: &[u8]) -> Result<HpsReader, Refusal>
+    ensures value { on_opened s.now (opened_says result) ≡ listing_lines s.now }
+    ensures readable { IfOk result Readable }
+{
+    if s.len() > KEY_LIMIT {
+        return Err(Refusal::WrongSlotLength);
+    }
+    open(s)
+}
+
 pub fn start_listing(s: &[u8]) -> Listing
     ensures stage_value { lines_from s.now result.reader result.stage ≡ listing_lines s.now }
     ensures readable { Readable result.reader }
 {
-    let call = open(s);
-    let reader = call.reader;
-    let reply = call.reply;
-    if s.len() > KEY_LIMIT {
-        let stage = Stage::Stop(7);
-        return Listing { stage, reader };
-    }
-    match reply {
-        OpenReply::Refused(number) => {
-            let stage = Stage::Stop(number);
-            Listing { stage, reader }
-        }
-        OpenReply::Opened => {
-            let stage = Stage::Head;
-            Listing { stage, reader }
-        }
+    match opened(s) {
+        Ok(reader) => Listing {
+            stage: Stage::Head,
+            reader,
+        },
+        Err(refusal) => Listing {
+            stage: Stage::Stop(refusal),
+            reader: no_reader(),
+        },
     }
 }

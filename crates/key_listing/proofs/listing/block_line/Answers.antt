@@ -1,7 +1,6 @@
-use Rattle.std.proofs.Common.{◌<◌, length, ap, arith}
+use Rattle.std.proofs.Common.{arith, ap, sym, ◌<◌, length}
 use Rattle.layout.specs.Records.{no_channel}
 use Rattle.layout.specs.declared.Channel.{Channel}
-use Rattle.reader.proofs.HeaderLaws.{header-got, header_short}
 use Rattle.reader.proofs.RecordLaws.{element, shaped}
 use Rattle.key_listing.specs.declared.Stage.{Stage}
 use Rattle.key_listing.proofs.ListingLaws.{block_short, block-rest}
@@ -13,7 +12,7 @@ returns-in_default c =
     let a = c.args in
     line_done a.s.now a.r (Stage.Blocks a.i) a.out.now a.at
     (block_short a.s.now a.r (shaped a.r _ c.well_formed.1.0).offsets c.requires.0.blocks a.i
-    c.requires.1 _ (header_short _ _ c.read_header.ensures c.in_default.is))
+    c.requires.1 _ (sym c.in_default.ensures))
 
 pub returns : goal.returns
 returns c =
@@ -22,5 +21,5 @@ returns c =
     let f = ap (λ (x : Channel). x.format) (element a.r.channels 0 no_channel _ l) in
     line_or_lem a.s.now a.r (Stage.Blocks a.i) a.out.now a.at _ _
     (block-rest a.s.now a.r (shaped a.r _ c.well_formed.1.0).offsets c.requires.0.blocks a.i
-    c.requires.1 c.in-Value.header (header-got _ _ c.read_header.ensures c.in-Value.is))
+    c.requires.1 c.in-Ok.header (sym c.in-Ok.ensures))
     (rw f c.put_block-n.ensures) _ c.put_or.ensures

@@ -49,7 +49,7 @@ frame_count_lem n bytes = simp (length-take, length-halves, length-drop)
 
 pub pair-count : (cs : List ℤ) (c : FrameContext) (hs : List ℕ) → length (pair_decoded cs c hs).samples ≡ length hs
 unfolding pair_decoded
-pair-count cs c hs = halves-count _ _ c.predictor_and_scale c.last c.oldest hs
+pair-count cs c hs = halves-count _ _ c hs
 
 -- the bytes of the frames after the first
 pub bytes_more : (n : ℕ) (bytes : List ℕ) → 16 < n → adpcm_bytes n ≤ length bytes → adpcm_bytes (n - 16) ≤ length (drop 8 bytes)

@@ -1,14 +1,15 @@
--- Half bytes by their numbers, and the loop that decodes them: what was put and what is still to come are the whole, and the other places stand as they were.
-use Prim.Native.Nat.{ℕ, zero, suc, ◌+◌, ◌-◌, ◌*◌, ◌/◌, ◌%◌, ◌≤◌, ◌<◌}
+-- Half bytes by their numbers, and the loop that decodes them: what was put and what is still to come are the whole.
+use Prim.Native.Nat.{ℕ, zero, suc, ◌+◌, ◌*◌, ◌/◌, ◌%◌, ◌≤◌, ◌<◌}
 use mathlib.Core.Path.{◌≡◌, refl, sym, ap, ◌∙◌}
 use mathlib.Core.List.{List, [], ◌∷◌, ◌++◌, append_assoc, append-nil}
 use native.Mathlib.Omega.{arith}
 use native.Mathlib.Numerals.{add-one}
-use lib.ListN.{length, get_or, take, drop, set, length-set, length-drop, take-append-drop, drop_of_length-le}
-use lib.Seq.{take-suc-set, drop-set-lt, drop-drop, drop-cons, get_or-drop, length-take-le}
+use lib.ListN.{length, get_or, take, drop, set, drop_of_length-le}
+use lib.Seq.{take-suc-set, drop-cons, take_all, length-take-le}
 use lib.IntN.{ℤ}
 use Rattle.adpcm_sample.specs.Sample.{sample}
-use Rattle.adpcm_block.specs.Block.{Decoded, halves, context_with, halves_decoded}
+use Rattle.adpcm_block.specs.Block.{Decoded, halves, context_with, with_sample, halves_decoded}
+use Rattle.layout.specs.declared.FrameContext.{FrameContext}
 
 pub length-halves : (bs : List ℕ) → length (halves bs) ≡ 2 * length bs
 unfolding halves
@@ -28,67 +29,47 @@ low_half [] k = refl
 low_half (b ∷ bs) zero = refl
 low_half (b ∷ bs) (suc k) = ap (λ (n : ℕ). get_or (halves (b ∷ bs)) n 0) (let h : suc (suc k + suc k) ≡ suc (suc (suc (k + k))) = omega arith in h) ∙ low_half bs k
 
--- from a place of the data on
-pub half_even : (bs : List ℕ) (from i : ℕ) → i % 2 ≡ 0 → get_or bs (from + i / 2) 0 / 16 ≡ get_or (halves (drop from bs)) i 0
-half_even bs from i e =
-    ap (λ (b : ℕ). b / 16) (sym (get_or-drop from bs (i / 2) 0)) ∙ sym (high_half (drop from bs) (i / 2))
-    ∙ ap (λ (n : ℕ). get_or (halves (drop from bs)) n 0) (let h : i / 2 + i / 2 ≡ i = omega arith in h)
+-- by its number
+pub half_even : (bs : List ℕ) (i : ℕ) → i % 2 ≡ 0 → get_or bs (i / 2) 0 / 16 ≡ get_or (halves bs) i 0
+half_even bs i e = sym (high_half bs (i / 2)) ∙ ap (λ (n : ℕ). get_or (halves bs) n 0) (omega arith)
 
-pub half_odd : (bs : List ℕ) (from i : ℕ) → (i % 2 ≡ 0 → ⊥) → get_or bs (from + i / 2) 0 % 16 ≡ get_or (halves (drop from bs)) i 0
-half_odd bs from i e =
-    ap (λ (b : ℕ). b % 16) (sym (get_or-drop from bs (i / 2) 0)) ∙ sym (low_half (drop from bs) (i / 2))
-    ∙ ap (λ (n : ℕ). get_or (halves (drop from bs)) n 0) (let h : suc (i / 2 + i / 2) ≡ i = omega (arith, e) in h)
+pub half_odd : (bs : List ℕ) (i : ℕ) → (i % 2 ≡ 0 → ⊥) → get_or bs (i / 2) 0 % 16 ≡ get_or (halves bs) i 0
+half_odd bs i e = sym (low_half bs (i / 2)) ∙ ap (λ (n : ℕ). get_or (halves bs) n 0) (omega (arith, e))
 
 -- so many of them
-pub counted-halves : (bs : List ℕ) (from count : ℕ) → count ≤ 2 * (length bs - from) → length (take count (halves (drop from bs))) ≡ count
-counted-halves bs from count h = length-take-le count (halves (drop from bs)) (simp (length-halves, length-drop) h)
+pub counted-halves : (bs : List ℕ) (count : ℕ) → count ≤ 2 * length bs → length (take count (halves bs)) ≡ count
+counted-halves bs count h = length-take-le count (halves bs) (simp length-halves h)
 
 -- each half byte is one sample
-pub halves-count : (c0 c1 : ℤ) (ps : ℕ) (last oldest : ℤ) (hs : List ℕ) → length (halves_decoded c0 c1 (context_with ps last oldest) hs).samples ≡ length hs
+pub halves-count : (c0 c1 : ℤ) (c : FrameContext) (hs : List ℕ) → length (halves_decoded c0 c1 c hs).samples ≡ length hs
 unfolding halves_decoded
-halves-count c0 c1 ps last oldest [] = refl
-halves-count c0 c1 ps last oldest (h ∷ hs) = ap suc (halves-count c0 c1 ps (sample c0 c1 last oldest h ps) last hs)
+halves-count c0 c1 c [] = refl
+halves-count c0 c1 c (h ∷ hs) = ap suc (halves-count c0 c1 (with_sample c (sample c0 c1 c.last c.oldest h c.predictor_and_scale)) hs)
 
 -- the decoding of some half bytes, of which i are done
-pub record Halving (c0 c1 : ℤ) (hs : List ℕ) (whole : Decoded) (before after : List ℤ) (at i ps : ℕ) (last oldest : ℤ) : Type 0 where
-  pub done : take (at + i) after ++ (halves_decoded c0 c1 (context_with ps last oldest) (drop i hs)).samples ≡ take at before ++ whole.samples
-  pub ends : (halves_decoded c0 c1 (context_with ps last oldest) (drop i hs)).context ≡ whole.context
-  pub rest : drop (at + i) after ≡ drop (at + i) before
-  pub size : length after ≡ length before
-  pub place : i ≤ length hs
+pub record Halving (c0 c1 : ℤ) (hs : List ℕ) (whole : Decoded) (after : List ℤ) (i : ℕ) (c : FrameContext) : Type 0 where
+  pub done : take i after ++ (halves_decoded c0 c1 c (drop i hs)).samples ≡ whole.samples
+  pub ends : (halves_decoded c0 c1 c (drop i hs)).context ≡ whole.context
 
-pub halving_first : (c0 c1 : ℤ) (hs : List ℕ) (out : List ℤ) (at ps : ℕ) (last oldest : ℤ)
-    → Halving c0 c1 hs (halves_decoded c0 c1 (context_with ps last oldest) hs) out out at 0 ps last oldest
-halving_first c0 c1 hs out at ps last oldest =
-    let e : at + 0 ≡ at = omega arith in
-    record { done = ap (λ (n : ℕ). take n out ++ (halves_decoded c0 c1 (context_with ps last oldest) hs).samples) e; ends = refl; rest = refl; size = refl; place = omega arith }
+pub halving_first : (c0 c1 : ℤ) (hs : List ℕ) (out : List ℤ) (c : FrameContext) → Halving c0 c1 hs (halves_decoded c0 c1 c hs) out 0 c
+halving_first c0 c1 hs out c = record { done = refl; ends = refl }
 
-module _ {c0 c1 : ℤ} {hs : List ℕ} {whole : Decoded} {before after : List ℤ} {at i ps : ℕ} {last oldest : ℤ} where
-  pub halving_next : Halving c0 c1 hs whole before after at i ps last oldest → i < length hs → at + i < length after
-      → {x : ℤ} → x ≡ sample c0 c1 last oldest (get_or hs i 0) ps
-      → Halving c0 c1 hs whole before (set after (at + i) x) at (i + 1) ps x last
+module _ {c0 c1 : ℤ} {hs : List ℕ} {whole : Decoded} {after : List ℤ} {i : ℕ} {c : FrameContext} (d : Halving c0 c1 hs whole after i c) where
+  pub halving_next : i < length hs → i < length after → {x y : ℤ} → x ≡ sample c0 c1 c.last c.oldest (get_or hs i 0) c.predictor_and_scale → y ≡ c.last
+      → Halving c0 c1 hs whole (set after i x) (i + 1) (context_with c.predictor_and_scale x y)
   unfolding halves_decoded
-  halving_next d l m {x} v =
+  halving_next l m {x} {y} v w =
       let cut : drop i hs ≡ get_or hs i 0 ∷ drop (i + 1) hs = drop-cons hs i 0 l ∙ ap (λ (n : ℕ). get_or hs i 0 ∷ drop n hs) (sym (add-one i)) in
-      let next : at + (i + 1) ≡ suc (at + i) = omega arith in
       record {
-        done = rw (next, take-suc-set after (at + i) x m, append_assoc, v) (rw cut at d.done);
-        ends = rw v (rw cut at d.ends);
-        rest = rw next (drop-set-lt (suc (at + i)) after (at + i) x (omega arith)
-            ∙ ap (λ (n : ℕ). drop n after) (let h : suc (at + i) ≡ at + i + 1 = omega arith in h) ∙ sym (drop-drop 1 (at + i) after) ∙ ap (drop 1) d.rest ∙ drop-drop 1 (at + i) before
-            ∙ ap (λ (n : ℕ). drop n before) (let h : at + i + 1 ≡ suc (at + i) = omega arith in h));
-        size = length-set after (at + i) x ∙ d.size;
-        place = omega arith;
+        done = ap (λ (n : ℕ). take n (set after i x) ++ (halves_decoded c0 c1 (context_with c.predictor_and_scale x y) (drop (i + 1) hs)).samples) (add-one i)
+            ∙ rw (take-suc-set after i x m, append_assoc, w, v) (rw cut at d.done);
+        ends = rw (w, v) (rw cut at d.ends);
       }
 
-  pub halving_all : Halving c0 c1 hs whole before after at i ps last oldest → length hs ≤ i → {count : ℕ} → length hs ≡ count
-      → (context_with ps last oldest ≡ whole.context) × (after ≡ take at before ++ (whole.samples ++ drop (at + count) before))
+  pub halving_all : length hs ≤ i → length after ≤ i → (c ≡ whole.context) × (after ≡ whole.samples)
   unfolding halves_decoded
-  halving_all d l {count} e =
-      let none : drop i hs ≡ [] = drop_of_length-le hs l in
-      let put : take (at + i) after ≡ take at before ++ whole.samples = sym (append-nil (take (at + i) after)) ∙ (rw none at d.done) in
-      let same : at + i ≡ at + count = omega (arith, d.place) in (
+  halving_all l m =
+      let none : drop i hs ≡ [] = drop_of_length-le hs l in (
         rw none at d.ends,
-        sym (take-append-drop (at + i) after) ∙ ap (λ (y : List ℤ). y ++ drop (at + i) after) put ∙ ap (λ (y : List ℤ). (take at before ++ whole.samples) ++ y) d.rest
-            ∙ append_assoc (take at before) whole.samples (drop (at + i) before) ∙ ap (λ (n : ℕ). take at before ++ (whole.samples ++ drop n before)) same,
+        sym (take_all i after m) ∙ sym (append-nil (take i after)) ∙ (rw none at d.done),
       )

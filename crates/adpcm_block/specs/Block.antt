@@ -1,5 +1,5 @@
 -- Hearing the block (document 02, Card 1): a frame and a block of ADPCM data decoded to samples, as decode.rs does it.
-use Rattle.std.specs.Prelude.{ℕ, zero, suc, ◌+◌, ◌-◌, ◌*◌, ◌/◌, ◌%◌, ◌≤◌, ◌≡◌, List, [], ◌∷◌, ◌++◌, length, get_or, take, drop, ltb, eqb, ℤ, pos}
+use Rattle.std.specs.Prelude.{ℕ, zero, suc, ◌+◌, ◌-◌, ◌*◌, ◌/◌, ◌%◌, ◌≤◌, ◌≡◌, List, [], ◌∷◌, ◌++◌, length, get_or, take, drop, ltb, ℤ, pos}
 use Rattle.layout.specs.Choice.{pick}
 use Rattle.layout.specs.Records.{Read, field, on, adpcm_bytes, adpcm_samples}
 use Rattle.layout.specs.declared.FrameContext.{FrameContext}
@@ -52,10 +52,6 @@ frame_decoded cs c n bytes = pair_decoded cs c (frame_halves n bytes)
 -- "a header byte": the next frame's, 8 bytes on, as predictor and scale
 abbrev pub with_header : FrameContext → List ℕ → FrameContext
 with_header c bytes = context_with (get_or bytes 8 0) c.last c.oldest
-
--- The predictor and scale of the frame that starts at a place of the data: "the first frame goes by the block's context"
-abbrev pub header_at : List ℕ → (first ps : ℕ) → ℕ
-header_at bytes first ps = pick (eqb first 0) ps (get_or bytes first 0)
 
 -- What is decoded after the context that a part leaves, behind that part.
 abbrev pub follow : Decoded → (FrameContext → Decoded) → Decoded

@@ -38,7 +38,7 @@ pub record Holds (kept : List ℕ) : Type 0 where
   pub room : loader_size ≤ length kept
   pub is : stream_in kept ≡ fields_in kept
 
-pub holds : (kept : List ℕ) → ((stream_in kept).slot ≡ 0 → ⊥) → Holds kept
+pub holds : (kept : List ℕ) → ((stream_in kept).setup.slot ≡ 0 → ⊥) → Holds kept
 unfolding stream_in
 holds kept h =
     by_cases (leb loader_size (length kept) and sensible (fields_in kept))
@@ -133,12 +133,12 @@ module _ (kept : List ℕ) (t : List Cue) (n : ℕ) (len : length t ≡ cue_limi
   fields-after : fields_in (table_put kept t n) ≡ fields_of (with_table (writer_of t (fields_in kept)) t n)
   unfolding fields_in
   fields-after =
-      let f = front_left kept t n len few room in
-      let r = rest-left kept t n len few room in
+      let f = front_left kept t n (omega (arith, len, few)) few room in
+      let r = rest-left kept t n (omega (arith, len, few)) few room in
       rw (
         long_same f 0 (omega arith) (omega arith),
         long_same f 8 (omega arith) (omega arith),
-        count-back kept t n len few room,
+        count-back kept t n (omega (arith, len, few)) few room,
         long_same r 24 (omega arith) (omega arith),
         long_same r 32 (omega arith) (omega arith),
         long_same r 40 (omega arith) (omega arith),
@@ -154,7 +154,7 @@ module _ (kept : List ℕ) (t : List Cue) (n : ℕ) (len : length t ≡ cue_limi
       )
 
 -- bytes that hold a record: put into them is the table of the record that the call gives
-pub cue-after : (kept : List ℕ) (c : Cue) (after : HpsWriter) (put : List ℕ) → ((stream_in kept).slot ≡ 0 → ⊥) → after ≡ (cue_of (writer_in kept) c).writer
+pub cue-after : (kept : List ℕ) (c : Cue) (after : HpsWriter) (put : List ℕ) → ((stream_in kept).setup.slot ≡ 0 → ⊥) → after ≡ (cue_of (writer_in kept) c).writer
     → put ≡ table_put kept after.table.cues after.table.count → table_in put cues_at after.table.count ≡ first_of after.table.cues after.table.count
     → writer_in put ≡ (cue_of (writer_in kept) c).writer
 cue-after kept c after put some e p b =
@@ -168,7 +168,7 @@ cue-after kept c after put some e p b =
     ∙ fields-after kept after.table.cues after.table.count g.table g.few h.room
     ∙ ap (λ (s : Fields). fields_of (with_table (writer_of [] s) [] after.table.count)) (sym h.is)
     ∙ sym stream in
-    let long : length put ≡ length kept = ap length p ∙ (front_left kept after.table.cues after.table.count g.table g.few h.room).long in
+    let long : length put ≡ length kept = ap length p ∙ (front_left kept after.table.cues after.table.count (omega (arith, g.table, g.few)) g.few h.room).long in
     let room : loader_size ≤ length put = omega (arith, h.room) in
     let is : stream_in put ≡ fields_of after = held-is put room (ap sensible fields ∙ good_sensible after g) ∙ fields in
     rw is (ap (λ (t : List Cue). writer_of t (fields_of after)) (b ∙ tailed)) ∙ e

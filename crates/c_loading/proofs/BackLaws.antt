@@ -36,12 +36,12 @@ use Rattle.c_record.proofs.SameLaws.{word_same, long_same, side_same, table_same
 use Rattle.c_record_put.specs.KeptNumbers.{mode_number, loop_offset_number, flag_number, places_bytes, sums_bytes, marks_bytes, number_bytes}
 use Rattle.c_record_put.proofs.NumberLaws.{places_length, sums_length, numbers_length}
 use Rattle.c_record.specs.KeptWriter.{loop_offset, fields_in, sensible, stream_in, writer_in}
-use Rattle.c_record.proofs.KeptLaws.{holds_record, kept_good}
+use Rattle.c_record.proofs.KeptLaws.{kept_good}
 use Rattle.c_record_put.proofs.SameLaws.{same-before, same_after}
 use Rattle.c_record_put.proofs.ThereLaws.{put-there}
 use Rattle.c_record_put.specs.KeptRecord.{side_bytes, record_bytes}
 use Rattle.c_record_put.proofs.RecordLaws.{side-length}
-use Rattle.c_loading.proofs.AfterLaws.{holds, good_sensible}
+use Rattle.c_loading.proofs.AfterLaws.{holds, held-is, good_sensible}
 use Rattle.layout.specs.Refusals.{slot_limit}
 use Rattle.layout.proofs.ReadBack.{zeros_fit}
 
@@ -121,37 +121,37 @@ loop-back (LoopAt.At n) o h s =
 
 -- ---- The numbers of a record
 
-pub numbers_back : (k : List ℕ) (s : Fields) (t : List Cue) → Good (writer_of t s) → Long s.channels → At k 0 (number_bytes s)
-    → side_in k left_at ≡ s.left → side_in k right_at ≡ s.right → fields_in k ≡ s
+pub numbers_back : (k : List ℕ) (s : Fields) (t : List Cue) → Good (writer_of t s) → Long s.setup.channels → At k 0 (number_bytes s)
+    → side_in k left_at ≡ s.stream.left → side_in k right_at ≡ s.stream.right → fields_in k ≡ s
 unfolding fields_in number_bytes
 numbers_back k s t g ch a l r =
-    let places = places_bytes s.slot s.channels s.count s.next in
-    let sums = sums_bytes s.base s.offset s.blocks s.sum in
-    let marks = marks_bytes s.loopat s.mode s.id s.last s.finished in
-    let pl : length places ≡ 32 = places_length s.slot s.channels s.count s.next in
-    let sl : length sums ≡ 32 = sums_length s.base s.offset s.blocks s.sum in
+    let places = places_bytes s.setup.slot s.setup.channels s.count s.stream.next in
+    let sums = sums_bytes s.stream.base s.stream.offset s.stream.blocks s.stream.sum in
+    let marks = marks_bytes s.stream.loopat s.setup.mode s.stream.id s.stream.last s.finished in
+    let pl : length places ≡ 32 = places_length s.setup.slot s.setup.channels s.count s.stream.next in
+    let sl : length sums ≡ 32 = sums_length s.stream.base s.stream.offset s.stream.blocks s.stream.sum in
     let front = at_left (places ++ sums) marks a in
     let small = g.small in
     let few = g.few in
     let placed = g.placed in
     let room = g.room in
     let many = g.many in
-    let p = places_back 0 s.slot s.channels s.count s.next (omega arith) ch (omega arith) (omega arith) (at_left places sums front) in
-    let q = sums_back 32 s.base s.offset s.blocks s.sum (omega (arith, g.base)) (omega arith) (omega arith) (omega (arith, g.sums))
+    let p = places_back 0 s.setup.slot s.setup.channels s.count s.stream.next (omega arith) ch (omega arith) (omega arith) (at_left places sums front) in
+    let q = sums_back 32 s.stream.base s.stream.offset s.stream.blocks s.stream.sum (omega (arith, g.base)) (omega arith) (omega arith) (omega (arith, g.sums))
     (at_move 32 (omega arith) (at_right places sums front)) in
-    let loop = loop-back s.loopat s.offset g.looped (omega arith) in
-    let mode = mode_back s.mode in
-    let last = flag_back s.last in
+    let loop = loop-back s.stream.loopat s.stream.offset g.looped (omega arith) in
+    let mode = mode_back s.setup.mode in
+    let last = flag_back s.stream.last in
     let done = flag_back s.finished in
-    let m = marks_parts 64 s.loopat s.mode s.id s.last s.finished (at_move 64 (omega (arith, length-append places sums)) (at_right (places ++ sums) marks a)) in
-    let nl = be64-length (loop_offset_number s.loopat) in
-    let nm = be32-length (mode_number s.mode) in
-    let ni = be32-length s.id in
-    let nt = be32-length (flag_number s.last) in
-    let m₀ : long_at k 64 ≡ loop_offset_number s.loopat = long-back 64 loop.0 m.0 in
-    let m₁ : word_at k 72 ≡ mode_number s.mode = word_back 72 mode.0 (at_move 72 (omega arith) m.1.0) in
-    let m₂ : word_at k 76 ≡ s.id = word_back 76 (omega (arith, g.named)) (at_move 76 (omega arith) m.1.1.0) in
-    let m₃ : word_at k 80 ≡ flag_number s.last = word_back 80 last.0 (at_move 80 (omega arith) m.1.1.1.0) in
+    let m = marks_parts 64 s.stream.loopat s.setup.mode s.stream.id s.stream.last s.finished (at_move 64 (omega (arith, length-append places sums)) (at_right (places ++ sums) marks a)) in
+    let nl = be64-length (loop_offset_number s.stream.loopat) in
+    let nm = be32-length (mode_number s.setup.mode) in
+    let ni = be32-length s.stream.id in
+    let nt = be32-length (flag_number s.stream.last) in
+    let m₀ : long_at k 64 ≡ loop_offset_number s.stream.loopat = long-back 64 loop.0 m.0 in
+    let m₁ : word_at k 72 ≡ mode_number s.setup.mode = word_back 72 mode.0 (at_move 72 (omega arith) m.1.0) in
+    let m₂ : word_at k 76 ≡ s.stream.id = word_back 76 (omega (arith, g.named)) (at_move 76 (omega arith) m.1.1.0) in
+    let m₃ : word_at k 80 ≡ flag_number s.stream.last = word_back 80 last.0 (at_move 80 (omega arith) m.1.1.1.0) in
     let m₄ : word_at k 84 ≡ flag_number s.finished = word_back 84 done.0 (at_move 84 (omega arith) m.1.1.1.1.0) in
     rw (p.0, p.1, p.2, p.3, q.0, q.1, q.2, q.3, m₀, m₁, m₂, m₃, m₄, loop.1, mode.1, last.1, done.1, l, r)
 
@@ -197,7 +197,7 @@ side-back {k} off b f a =
 pub record_back : (k k' : List ℕ) (s : Fields) (t : List Cue) → loader_size ≤ length k → length k' ≡ length k → Good (writer_of t s) → fields_in k' ≡ s → Agree k' k cues_at loader_size
     → writer_in k' ≡ writer_of (table_in k cues_at s.count) s
 record_back k k' s t room long g e a =
-    let is : stream_in k' ≡ s = sym (holds_record k' (omega arith) s (sym e) (sensible s) refl (good_sensible (writer_of t s) g)) in
+    let is : stream_in k' ≡ s = held-is k' (omega arith) (ap sensible e ∙ good_sensible (writer_of t s) g) ∙ e in
     let few = g.few in
     rw is (ap (λ (c : List Cue). writer_of c s) (table_same k' k cues_at loader_size a long s.count cues_at (omega arith) (omega arith)))
 
@@ -205,24 +205,7 @@ record_back k k' s t room long g e a =
 
 -- the numbers with the mark of a finished stream
 abbrev marked : Fields → Fields
-marked s =
-    record {
-      slot = s.slot;
-      channels = s.channels;
-      mode = s.mode;
-      count = s.count;
-      next = s.next;
-      id = s.id;
-      base = s.base;
-      offset = s.offset;
-      loopat = s.loopat;
-      blocks = s.blocks;
-      sum = s.sum;
-      left = s.left;
-      right = s.right;
-      last = s.last;
-      finished = true;
-    }
+marked s = record { setup = s.setup; count = s.count; stream = s.stream; finished = true }
 
 mark_back : (k : List ℕ) → loader_size ≤ length k → fields_in (put_at k 84 (be32 1)) ≡ marked (fields_in k)
 unfolding fields_in
@@ -254,7 +237,7 @@ mark_back k room =
       side_same k' k from loader_size b long right_at (omega arith) (omega arith),
     )
 
-finish_back : (k : List ℕ) → ((stream_in k).slot ≡ 0 → ⊥) → (lent : ℕ) → finish_refusal (stream_in k).finished (stream_in k).blocks (stream_in k).last lent ≡ 0
+finish_back : (k : List ℕ) → ((stream_in k).setup.slot ≡ 0 → ⊥) → (lent : ℕ) → finish_refusal (stream_in k).finished (stream_in k).stream.blocks (stream_in k).stream.last lent ≡ 0
     → writer_in (put_at k 84 (be32 1)) ≡ after_finish (writer_in k)
 unfolding after_finish
 finish_back k h lent z =
@@ -265,28 +248,28 @@ finish_back k h lent z =
     (same_after k 84 (be32 1) (omega (arith, there.room)) cues_at loader_size (omega arith)).byte
 
 module _ (k : List ℕ) (lent : List ℕ) where
-  pub finish_after : ((stream_in k).slot ≡ 0 → ⊥) → finish_refusal (stream_in k).finished (stream_in k).blocks (stream_in k).last (length lent) ≡ 0
+  pub finish_after : ((stream_in k).setup.slot ≡ 0 → ⊥) → finish_refusal (stream_in k).finished (stream_in k).stream.blocks (stream_in k).stream.last (length lent) ≡ 0
       → writer_in (put_at k 84 (be32 1)) ≡ (finish_of (writer_in k) lent).writer
   unfolding finish_of
   finish_after h z = rw z (finish_back k h (length lent) z)
 
 -- ---- After begin
 
-module _ (k : List ℕ) (room : loader_size ≤ length k) (s : Fields) (t : List Cue) (g : Good (writer_of t s)) (ch : Long s.channels) where
-  pub whole_back : SideFits s.left → SideFits s.right → writer_in (put_at k 0 (record_bytes s)) ≡ writer_of (table_in k cues_at s.count) s
+module _ (k : List ℕ) (room : loader_size ≤ length k) (s : Fields) (t : List Cue) (g : Good (writer_of t s)) (ch : Long s.setup.channels) where
+  pub whole_back : SideFits s.stream.left → SideFits s.stream.right → writer_in (put_at k 0 (record_bytes s)) ≡ writer_of (table_in k cues_at s.count) s
   unfolding record_bytes
   whole_back fl fr =
-      let lb = side_bytes s.left in
-      let rb = side_bytes s.right in
+      let lb = side_bytes s.stream.left in
+      let rb = side_bytes s.stream.right in
       let bs = number_bytes s ++ (lb ++ rb) in
       let n = numbers_length s in
-      let nl : length lb ≡ 48 = side-length s.left fl.typed.coefficients.sixteen in
-      let nr : length rb ≡ 48 = side-length s.right fr.typed.coefficients.sixteen in
+      let nl : length lb ≡ 48 = side-length s.stream.left fl.typed.coefficients.sixteen in
+      let nr : length rb ≡ 48 = side-length s.stream.right fr.typed.coefficients.sixteen in
       let m : length bs ≡ cues_at = length-append (number_bytes s) (lb ++ rb) ∙ omega (arith, length-append lb rb) in
       let a = put-there k 0 bs (omega arith) in
       let sides = at_move left_at (omega arith) (at_right (number_bytes s) (lb ++ rb) a) in
-      let left = side-back left_at s.left fl (at_left lb rb sides) in
-      let right = side-back right_at s.right fr (at_move right_at (omega arith) (at_right lb rb sides)) in
+      let left = side-back left_at s.stream.left fl (at_left lb rb sides) in
+      let right = side-back right_at s.stream.right fr (at_move right_at (omega arith) (at_right lb rb sides)) in
       record_back k (put_at k 0 bs) s t room (put_at-length k 0 bs) g
       (numbers_back (put_at k 0 bs) s t g ch (at_left (number_bytes s) (lb ++ rb) a) left right)
       (same_after k 0 bs (omega arith) cues_at loader_size (omega arith)).byte

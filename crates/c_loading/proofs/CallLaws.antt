@@ -1,20 +1,26 @@
 -- A call on a record in bytes, by what the call on the record gives.
 use Prim.Native.Nat.{ℕ}
+use Rattle.std.proofs.Common.{Result, Ok, Err}
+use Rattle.std.specs.Result.{IsErrAnd}
 use mathlib.Core.Path.{◌≡◌, refl, ap, sym, ◌∙◌}
-use mathlib.Core.Bool.{false}
 use mathlib.Core.List.{List, []}
 use lib.ListN.{length}
-use borrow.Author.Tests.{eq-eqb, ne_eqb, eqb-true}
-use lib.Dec.{eqb}
+use borrow.Author.Tests.{eq-eqb, ne_eqb, eqb-true, eqb-false}
+use lib.Dec.{eqb, ltb}
+use Rattle.c_record.specs.KeptSides.{where_kind}
 use Rattle.layout.proofs.Cases.{by_cases}
-use Rattle.writer.specs.Loading.{begin_refusal, begin_write, cue_refusal, finish_refusal, start_write, rest_write, mark_write}
+use Rattle.writer.specs.Loading.{mode_of, begin_refusal, begin_write, cue_refusal, finish_refusal, start_write, rest_write, mark_write}
 use Rattle.writer.specs.Calls.{Handed, reply_for, Outcome, outcome, blank, empty_of, held, after_cue, header_of, after_finish, begin_of, cue_of, finish_of}
+use Rattle.writer.specs.declared.Place.{Place}
+use Rattle.writer.specs.declared.Reply.{Reply}
+use Rattle.c_opened.specs.declared.failure.Failure.{Failure}
+use Rattle.c_opened.specs.declared.failure.Failure.TheVariants.{NoRecord, NoKind}
+use Rattle.c_opened.specs.Failures.{failure_number}
 use Rattle.writer.specs.declared.Looping.{Looping}
 use Rattle.writer.specs.declared.Cue.{Cue}
 use Rattle.writer.specs.declared.HpsWriter.{HpsWriter}
 use Rattle.c_record.specs.KeptWriter.{stream_in}
-use Rattle.c_loading.specs.KeptLoading.{no_call, call_in, call_of, on_kept, given_after}
-use Rattle.c_loading.specs.declared.KeptCall.{KeptCall}
+use Rattle.c_loading.specs.KeptLoading.{call_in, kept_says, place_in, on_kept, given_after}
 
 -- what is lent, after a call that is refused and after one that is accepted
 module _ {A : Type 0} (n : ℕ) (before given : A) where
@@ -24,53 +30,79 @@ module _ {A : Type 0} (n : ℕ) (before given : A) where
   pub given_as : n ≡ 0 → given ≡ given_after n before given
   given_as z = rw (eq-eqb n 0 z)
 
--- after one that gives a number alone
-module _ {A : Type 0} (q : KeptCall) (before given : A) where
-  pub leaves : (n : ℕ) → q ≡ no_call n → eqb n 0 ≡ false → before ≡ given_after q.number before given
-  leaves n e t = let u : eqb q.number 0 ≡ false = ap (λ (x : KeptCall). eqb x.number 0) e ∙ t in rw u
+-- what a `?` hands on is the failure that was told
+pub told_on : {A : Type 0} (x : Result A Failure) (e : Failure) → IsErrAnd x (λ y. y ≡ e) → x ≡ Err e
+told_on (Ok a) e h = absurd h
+told_on (Err y) e h = ap Err h
+
+-- and with it all is left
+pub left_err : {A : Type 0} (x : Result Place Failure) (e : Failure) (before given : A) → IsErrAnd x (λ y. y ≡ e) → (failure_number e ≡ 0 → ⊥) → before ≡ given_after (kept_says x).number before given
+left_err x e before given h n = rw (told_on x e h, ne_eqb (failure_number e) 0 n)
+
+-- a mode that there is
+pub mode_gives : (n : ℕ) (m : Looping) → Ok m ≡ where_kind n (mode_of n) → m ≡ mode_of n
+mode_gives n m e =
+    by_cases (ltb 2 n)
+    (λ t. let z : Ok m ≡ Err NoKind = rw t at e in cc)
+    (λ t. let z : Ok m ≡ Ok (mode_of n) = rw t at e in cc)
+
+-- what a reply's place says is what the reply comes to
+pub says_in : (q : Reply) → kept_says (place_in q) ≡ call_in q
+says_in (Reply.Refused n) = refl
+says_in Reply.NoWrite = refl
+says_in (Reply.OneWrite p) = refl
+says_in (Reply.ThreeWrites n p q r) = refl
 
 module _ (kept : List ℕ) (o : Outcome) where
-  pub no_record : (stream_in kept).slot ≡ 0 → (q : KeptCall) → q ≡ no_call 254 → q ≡ on_kept kept o
-  no_record h q e = rw (eq-eqb (stream_in kept).slot 0 h) e
+  pub none_says : (n : Failure) → (n ≡ NoRecord) × ((stream_in kept).setup.slot ≡ 0) → kept_says (Err n) ≡ on_kept kept o
+  none_says n h = rw (h.0, eq-eqb (stream_in kept).setup.slot 0 h.1)
 
-  pub on_record_lem : ((stream_in kept).slot ≡ 0 → ⊥) → (q : KeptCall) → q ≡ call_of o → q ≡ on_kept kept o
-  on_record_lem h q e = rw (ne_eqb (stream_in kept).slot 0 h) e
+  pub some_says : ((stream_in kept).setup.slot ≡ 0 → ⊥) → (x : Result Place Failure) → x ≡ place_in o.reply → kept_says x ≡ on_kept kept o
+  some_says h x e = rw (ne_eqb (stream_in kept).setup.slot 0 h) (ap kept_says e ∙ says_in o.reply)
 
--- ---- The number of an outcome is the refusal's
+-- ---- An outcome is refused with the number due, or accepted where none is
 
 module _ (n : ℕ) (w : HpsWriter) (lent : List ℕ) (next : HpsWriter) (h : Handed) where
-  accepted-number : (x : Handed) → (call_in (reply_for x)).number ≡ 0
-  accepted-number Handed.none = refl
-  accepted-number (Handed.one x) = refl
-  accepted-number (Handed.three m x y z) = refl
+  handed-place : (x : Handed) (e : Failure) → Err e ≡ place_in (reply_for x) → ⊥
+  handed-place Handed.none e z = cc
+  handed-place (Handed.one x) e z = cc
+  handed-place (Handed.three m x y r) e z = cc
 
-  number_is : (call_of (outcome n w lent next h)).number ≡ n
-  number_is = by_cases (eqb n 0) (λ q. rw q (accepted-number h ∙ sym (eqb-true n 0 q))) (λ q. rw q)
+  err_due : (e : Failure) → Err e ≡ place_in (outcome n w lent next h).reply → (failure_number e ≡ 0 → ⊥) × ((outcome n w lent next h).lent ≡ lent)
+  err_due e z =
+      by_cases (eqb n 0)
+      (λ q. absurd (handed-place h e (rw q at z)))
+      (λ q.
+      let x : Err e ≡ Err (Failure.Refused n) = rw q at z in
+      let y : e ≡ Failure.Refused n = cc in
+      (λ m. eqb-false n 0 q (sym (ap failure_number y) ∙ m), rw q))
 
-  lent_stays : ((call_of (outcome n w lent next h)).number ≡ 0 → ⊥) → (outcome n w lent next h).lent ≡ lent
-  lent_stays f = rw (ne_eqb n 0 (λ z. f (number_is ∙ z)))
+  ok_due : (p : Place) → Ok p ≡ place_in (outcome n w lent next h).reply → n ≡ 0
+  ok_due p z =
+      by_cases (eqb n 0) (λ q. eqb-true n 0 q)
+      (λ q. let x : Ok p ≡ Err (Failure.Refused n) = rw q at z in cc)
 
 module _ (n ch : ℕ) (mode : Looping) (lent : List ℕ) where
-  pub begin-number : (call_of (begin_of n ch mode lent)).number ≡ begin_refusal n ch (length lent)
+  pub begin_err : (e : Failure) → Err e ≡ place_in (begin_of n ch mode lent).reply → (failure_number e ≡ 0 → ⊥) × ((begin_of n ch mode lent).lent ≡ lent)
   unfolding begin_of
-  begin-number = number_is (begin_refusal n ch (length lent)) blank lent (empty_of n ch mode) (Handed.one begin_write)
+  begin_err = err_due (begin_refusal n ch (length lent)) blank lent (empty_of n ch mode) (Handed.one begin_write)
 
-  pub begin_lent : ((call_of (begin_of n ch mode lent)).number ≡ 0 → ⊥) → (begin_of n ch mode lent).lent ≡ lent
+  pub begin_ok : (p : Place) → Ok p ≡ place_in (begin_of n ch mode lent).reply → begin_refusal n ch (length lent) ≡ 0
   unfolding begin_of
-  begin_lent = lent_stays (begin_refusal n ch (length lent)) blank lent (empty_of n ch mode) (Handed.one begin_write)
+  begin_ok = ok_due (begin_refusal n ch (length lent)) blank lent (empty_of n ch mode) (Handed.one begin_write)
 
-pub cue-number : (w : HpsWriter) (c : Cue) → (call_of (cue_of w c)).number ≡ cue_refusal w.stream.blocks (held w) c
+pub cue_err : (w : HpsWriter) (c : Cue) (e : Failure) → Err e ≡ place_in (cue_of w c).reply → failure_number e ≡ 0 → ⊥
 unfolding cue_of
-cue-number w c = number_is (cue_refusal w.stream.blocks (held w) c) w [] (after_cue w c) Handed.none
+cue_err w c e z = (err_due (cue_refusal w.stream.blocks (held w) c) w [] (after_cue w c) Handed.none e z).0
 
 module _ (w : HpsWriter) (lent : List ℕ) where
   abbrev handed : Handed
   handed = let h = header_of w in Handed.three w.stream.offset (start_write h) (rest_write h) (mark_write h)
 
-  pub finish_number : (call_of (finish_of w lent)).number ≡ finish_refusal w.finished w.stream.blocks w.stream.last (length lent)
+  pub finish_err : (e : Failure) → Err e ≡ place_in (finish_of w lent).reply → (failure_number e ≡ 0 → ⊥) × ((finish_of w lent).lent ≡ lent)
   unfolding finish_of
-  finish_number = number_is (finish_refusal w.finished w.stream.blocks w.stream.last (length lent)) w lent (after_finish w) handed
+  finish_err = err_due (finish_refusal w.finished w.stream.blocks w.stream.last (length lent)) w lent (after_finish w) handed
 
-  pub finish_lent : ((call_of (finish_of w lent)).number ≡ 0 → ⊥) → (finish_of w lent).lent ≡ lent
+  pub finish_ok : (p : Place) → Ok p ≡ place_in (finish_of w lent).reply → finish_refusal w.finished w.stream.blocks w.stream.last (length lent) ≡ 0
   unfolding finish_of
-  finish_lent = lent_stays (finish_refusal w.finished w.stream.blocks w.stream.last (length lent)) w lent (after_finish w) handed
+  finish_ok = ok_due (finish_refusal w.finished w.stream.blocks w.stream.last (length lent)) w lent (after_finish w) handed

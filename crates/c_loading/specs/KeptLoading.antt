@@ -1,5 +1,5 @@
 -- What the loading calls on a record in lent bytes give.
-use Rattle.std.specs.Prelude.{ℕ, List, length, ltb, eqb}
+use Rattle.std.specs.Prelude.{ℕ, List, length, ltb, eqb, Result, Ok, Err}
 use Rattle.layout.specs.Choice.{pick}
 use Rattle.layout.specs.Puts.{put_at}
 use Rattle.layout.specs.Records.{be32}
@@ -10,8 +10,16 @@ use Rattle.c_record_put.specs.KeptRecord.{record_bytes, pushed_bytes}
 use Rattle.c_record_put.specs.KeptTable.{table_put}
 use Rattle.writer.specs.declared.Reply.{Reply}
 use Rattle.writer.specs.declared.Reply.TheVariants.{Refused, NoWrite, OneWrite, ThreeWrites}
-use Rattle.c_loading.specs.declared.KeptCall.{KeptCall}
+use Rattle.writer.specs.declared.Place.{Place}
+use Rattle.c_opened.specs.declared.failure.Failure.{Failure}
+use Rattle.c_opened.specs.Failures.{failure_number}
 use Rattle.c_record.specs.KeptSides.{loader_size}
+
+-- The number of a call, 0 where it is accepted; the place of the write that it hands out, or what else it gives.
+pub record KeptCall : Type 0 where
+  pub number : ℕ
+  pub offset : ℕ
+  pub length : ℕ
 
 -- A call that gives this number and nothing else.
 abbrev pub no_call : (number : ℕ) → KeptCall
@@ -24,6 +32,18 @@ call_in NoWrite = no_call 0
 call_in (OneWrite p) = record { number = 0; offset = p.offset; length = p.length }
 call_in (ThreeWrites n p q r) = record { number = 0; offset = 0; length = n }
 
+-- What a call's result says.
+abbrev pub kept_says : Result Place Failure → KeptCall
+kept_says (Ok p) = record { number = 0; offset = p.offset; length = p.length }
+kept_says (Err e) = no_call (failure_number e)
+
+-- The place of a reply's one write, or the finished length.
+abbrev pub place_in : Reply → Result Place Failure
+place_in (Refused n) = Err (Failure.Refused n)
+place_in NoWrite = Ok (record { offset = 0; length = 0 })
+place_in (OneWrite p) = Ok p
+place_in (ThreeWrites n p q r) = Ok (record { offset = 0; length = n })
+
 abbrev pub call_of : Outcome → KeptCall
 call_of o = call_in o.reply
 
@@ -33,7 +53,7 @@ where_room kept mode q = pick (ltb (length kept) loader_size) (no_call 252) (pic
 
 -- A call on the record that bytes hold: 254 where they hold none.
 abbrev pub on_kept : List ℕ → Outcome → KeptCall
-on_kept kept o = pick (eqb (stream_in kept).slot 0) (no_call 254) (call_of o)
+on_kept kept o = pick (eqb (stream_in kept).setup.slot 0) (no_call 254) (call_of o)
 
 -- What is lent after a call with this number, and the record that lent bytes hold: what the call gives where it is accepted, else as it was.
 abbrev pub given_after : {A : Type 0} → (number : ℕ) → (before given : A) → A

@@ -43,8 +43,8 @@ use Rattle.c_loading.proofs.BackLaws.{Long, numbers_back, SideFits, record_back,
 
 -- ---- The bytes that are put
 
-module _ (k : List ℕ) (room : loader_size ≤ length k) (s : Fields) (t : List Cue) (g : Good (writer_of t s)) (ch : Long s.channels) where
-  numbers_alone : side_in k left_at ≡ s.left → side_in k right_at ≡ s.right → writer_in (put_at k 0 (number_bytes s)) ≡ writer_of (table_in k cues_at s.count) s
+module _ (k : List ℕ) (room : loader_size ≤ length k) (s : Fields) (t : List Cue) (g : Good (writer_of t s)) (ch : Long s.setup.channels) where
+  numbers_alone : side_in k left_at ≡ s.stream.left → side_in k right_at ≡ s.stream.right → writer_in (put_at k 0 (number_bytes s)) ≡ writer_of (table_in k cues_at s.count) s
   numbers_alone l r =
       let bs = number_bytes s in
       let k' = put_at k 0 bs in
@@ -55,46 +55,46 @@ module _ (k : List ℕ) (room : loader_size ≤ length k) (s : Fields) (t : List
       let right = side_same k' k (0 + length bs) loader_size b long right_at (omega arith) (omega arith) ∙ r in
       record_back k k' s t room long g (numbers_back k' s t g ch (put-there k 0 bs (omega arith)) left right) (λ i x y. b i (omega arith) y)
 
-  pushed_back : (s.blocks ≡ 1 → SideFits s.left × SideFits s.right) → ((s.blocks ≡ 1 → ⊥) → (side_in k left_at ≡ s.left) × (side_in k right_at ≡ s.right))
+  pushed_back : (s.stream.blocks ≡ 1 → SideFits s.stream.left × SideFits s.stream.right) → ((s.stream.blocks ≡ 1 → ⊥) → (side_in k left_at ≡ s.stream.left) × (side_in k right_at ≡ s.stream.right))
       → writer_in (put_at k 0 (pushed_bytes s)) ≡ writer_of (table_in k cues_at s.count) s
   unfolding pushed_bytes
   pushed_back first later =
-      by_cases (eqb s.blocks 1)
-      (λ q. let f = first (eqb-true s.blocks 1 q) in rw q (whole_back k room s t g ch f.0 f.1))
-      (λ q. let f = later (eqb-false s.blocks 1 q) in rw q (numbers_alone f.0 f.1))
+      by_cases (eqb s.stream.blocks 1)
+      (λ q. let f = first (eqb-true s.stream.blocks 1 q) in rw q (whole_back k room s t g ch f.0 f.1))
+      (λ q. let f = later (eqb-false s.stream.blocks 1 q) in rw q (numbers_alone f.0 f.1))
 
 -- ---- After a push
 
-side-there : (k : List ℕ) → ((fields_in k).left ≡ side_in k left_at) × ((fields_in k).right ≡ side_in k right_at)
+side-there : (k : List ℕ) → ((fields_in k).stream.left ≡ side_in k left_at) × ((fields_in k).stream.right ≡ side_in k right_at)
 unfolding fields_in
 side-there k = (refl, refl)
 
-module _ (k : List ℕ) (some : (stream_in k).slot ≡ 0 → ⊥) {ch : ℕ} {l r : ChannelBlock} {ld rd : List ℕ} {last : Bool} {lent : List ℕ} {end : ℕ} {t : Taken} {held : Bool} {plan : Plan}
+module _ (k : List ℕ) (some : (stream_in k).setup.slot ≡ 0 → ⊥) {ch : ℕ} {l r : ChannelBlock} {ld rd : List ℕ} {last : Bool} {lent : List ℕ} {end : ℕ} {t : Taken} {held : Bool} {plan : Plan}
     (w : Worked (writer_in k) ch l r ld rd last lent end t held plan) (z : plan.due ≡ 0) (block : empty_push (push_args ch l r ld rd last) ≡ false)
-    (fl : SideFits l) (fr : SideFits r) (long : Long (stream_in k).channels) where
+    (fl : SideFits l) (fr : SideFits r) (long : Long (stream_in k).setup.channels) where
   abbrev next : Fields
   next = fields_with (stream_in k) plan.after
 
   next_good : Good (writer_of (table_in k cues_at (stream_in k).count) next)
   next_good = rw (after_is w z block) (block_good (writer_in k) (push_args ch l r ld rd last) (length lent) (kept_good k) block (sym (due-is w) ∙ z))
 
-  first_fits : next.blocks ≡ 1 → SideFits next.left × SideFits next.right
+  first_fits : next.stream.blocks ≡ 1 → SideFits next.stream.left × SideFits next.stream.right
   unfolding advanced
   first_fits e =
       let a = advances w z block in
-      let none : (stream_in k).blocks ≡ 0 = omega (arith, e, ap (λ (m : Stream). m.blocks) a) in
-      rw (a, eq-eqb (stream_in k).blocks 0 none) (fl, fr)
+      let none : (stream_in k).stream.blocks ≡ 0 = omega (arith, e, ap (λ (m : Stream). m.blocks) a) in
+      rw (a, eq-eqb (stream_in k).stream.blocks 0 none) (fl, fr)
 
-  later_there : (next.blocks ≡ 1 → ⊥) → (side_in k left_at ≡ next.left) × (side_in k right_at ≡ next.right)
+  later_there : (next.stream.blocks ≡ 1 → ⊥) → (side_in k left_at ≡ next.stream.left) × (side_in k right_at ≡ next.stream.right)
   unfolding advanced
   later_there h =
       let there = (holds k some).is in
       let e = side-there k in
       let a = advances w z block in
-      rw (a, ne_eqb (stream_in k).blocks 0 (λ n. h (ap (λ (m : Stream). m.blocks) a ∙ ap (λ (m : ℕ). m + 1) n)))
-      (sym (ap (λ (s : Fields). s.left) there ∙ e.0), sym (ap (λ (s : Fields). s.right) there ∙ e.1))
+      rw (a, ne_eqb (stream_in k).stream.blocks 0 (λ n. h (ap (λ (m : Stream). m.blocks) a ∙ ap (λ (m : ℕ). m + 1) n)))
+      (sym (ap (λ (s : Fields). s.stream.left) there ∙ e.0), sym (ap (λ (s : Fields). s.stream.right) there ∙ e.1))
 
-  kept_there : (next.channels ≡ (stream_in k).channels) × (next.count ≡ (stream_in k).count)
+  kept_there : (next.setup.channels ≡ (stream_in k).setup.channels) × (next.count ≡ (stream_in k).count)
   kept_there = (refl, refl)
 
   pub push_after : writer_in (put_at k 0 (pushed_bytes next)) ≡ (push_of (writer_in k) (push_args ch l r ld rd last) lent).writer

@@ -2,10 +2,12 @@
 #![tactic(auto)]
 
 ghost use Rattle.std.specs.Prelude.{◌/◌, ◌≤◌, min, ◌≡◌, length};
+ghost use Rattle.layout.specs.Answers.{says};
 ghost use Rattle.fader.specs.Fader.{level_limit, fade_reply};
 ghost use Rattle.fader_pcm.specs.FadedPcm.{pcm_fading, bytes_after, PortionsFaded, first_faded};
 
-use fader::{FadeReply, fade};
+use fader::fade;
+use layout::refusal::Refusal;
 use pcm_bytes::{get_pcm, put_pcm};
 
 // So many samples at a time.
@@ -25,7 +27,7 @@ fn fade_portion(level: usize, bytes: &mut [u8], samples: &mut [i16]) -> usize
     ensures samples_len_unchanged { length samples.new ≡ length samples.old }
 {
     let n = get_pcm(bytes, samples);
-    fade(level, &mut samples[..n]);
+    let _ = fade(level, &mut samples[..n]);
     put_pcm(&samples[..n], bytes)
 }
 
@@ -46,19 +48,14 @@ fn fade_within(level: usize, bytes: &mut [u8])
 }
 
 // Refused, the lent bytes are left; an odd last byte is left always.
-pub fn fade_pcm(level: usize, bytes: &mut [u8]) -> FadeReply
-    ensures value { result ≡ fade_reply (pcm_fading level bytes.old) }
+#[tactic(auto, using(fader::proofs::FadeLaws::same_reply, fader::proofs::FadeLaws::reply_high, fader::proofs::FadeLaws::reply_low, fader::proofs::FadeLaws::too_high, layout::proofs::FieldLaws::passed_on))]
+pub fn fade_pcm(level: usize, bytes: &mut [u8]) -> Result<(), Refusal>
+    ensures value { says result ≡ fade_reply (pcm_fading level bytes.old) }
     ensures bytes_after { bytes.new ≡ bytes_after bytes.old (pcm_fading level bytes.old) }
 {
-    let mut none = [0i16; 0];
-    let reply = fade(level, &mut none);
-    match reply {
-        FadeReply::Refused(n) => FadeReply::Refused(n),
-        FadeReply::Faded => {
-            fade_within(level, bytes);
-            FadeReply::Faded
-        }
-    }
+    fade(level, &mut [])?;
+    fade_within(level, bytes);
+    Ok(())
 }
 
 // Portions of whole samples come to the whole.

@@ -6,23 +6,19 @@ use mathlib.Core.List.{List, [], ◌∷◌, ◌++◌, append_assoc, append-nil}
 use native.Mathlib.Omega.{arith}
 use lib.ListN.{length, take, drop, length-append, length-drop, drop_of_length-le}
 use borrow.Author.Tests.{le-leb, lt-leb}
+use Rattle.std.specs.Prelude.{Option, Some, None}
 use Rattle.layout.specs.Choice.{pick}
 use Rattle.layout.specs.Puts.{put_at}
 use Rattle.layout.proofs.Cases.{by_cases, pick_true, pick_false}
 use Rattle.layout.proofs.PutLaws.{Put, put_then, put_at-none, put_at-length}
-use Rattle.key_lines.specs.Lines.{column, columns_bytes, LinePut}
+use Rattle.key_lines.specs.Lines.{column, columns_bytes}
 use Rattle.key_lines.specs.declared.Column.TheVariants.{Number}
 use Rattle.key_lines.proofs.ColumnLaws.{column-length}
 use Rattle.script_words.specs.Texts.{whole_line, lines_after, whole_lines, parted}
 use Rattle.script_words.proofs.TextLaws.{parted-none, parted-next, parted-few, parted-whole}
-use Rattle.frame_pool.specs.FramePool.{take_of, give_of}
+use Rattle.frame_pool.specs.FramePool.{TakeReply, GiveReply, take_of, give_of}
 use Rattle.frame_pool.specs.FrameLists.{pool_after}
-use Rattle.frame_pool.specs.declared.DecoderId.{DecoderId}
-use Rattle.frame_pool.specs.declared.TakeReply.{TakeReply}
-use Rattle.frame_pool.specs.declared.GiveReply.{GiveReply}
-use Rattle.frame_pool.specs.declared.TakeCall.{TakeCall}
-use Rattle.frame_pool.specs.declared.GiveCall.{GiveCall}
-use Rattle.frame_pool_lines.specs.PoolLines.{said_by, take_line, give_line, call_answer, next_progress, after_said, CallAnswered}
+use Rattle.frame_pool_lines.specs.PoolLines.{said_by, take_line, give_line, call_answer, after_said, CallAnswered}
 use Rattle.frame_pool_lines.specs.PoolText.{answers_from, progress_from, answers_in, answered_in, then_calls, calls_said, LinesAreCalls, PortionsAnswered}
 use Rattle.frame_pool_lines.specs.declared.says.SaidCall.{SaidCall}
 use Rattle.frame_pool_lines.specs.declared.Progress.{Progress}
@@ -41,10 +37,10 @@ give_short : (r : GiveReply) → length (give_line r) ≤ 16
 give_short GiveReply.Given = omega arith
 give_short (GiveReply.Refused n) = omega (arith, number-line n)
 
-answer_short : (g : Progress) (s : SaidCall) → length (call_answer g s) ≤ 16
-answer_short g (SaidCall.Take d) = take_short (take_of g.pool d).reply
-answer_short g (SaidCall.Give d f) = give_short (give_of g.pool d f).reply
-answer_short g SaidCall.Neither = omega (arith, number-line g.number)
+answer_short : (g : Progress) (s : Option SaidCall) → length (call_answer g s) ≤ 16
+answer_short g (Some (SaidCall.Take d)) = take_short (take_of g.pool d).reply
+answer_short g (Some (SaidCall.Give d f)) = give_short (give_of g.pool d f).reply
+answer_short g None = omega (arith, number-line g.number)
 
 lines_short : (g : Progress) (ls : List (List ℕ)) → length (answers_from g ls) ≤ 16 * length ls
 unfolding answers_from
@@ -59,26 +55,6 @@ lines_short g (l ∷ ls) =
 -- so the answers to a text have a room
 pub answers-few : (g : Progress) (text : List ℕ) → length (answers_from g (parted text)) ≤ 16 * length text
 answers-few g text = omega (arith, lines_short g (parted text), parted-few text)
-
--- ---- A call and its answer
-
-module _ {g : Progress} {d : DecoderId} {before after : List ℕ} {at n : ℕ} {q : Progress} where
-  pub taken_by_lem : {call : TakeCall} → call ≡ take_of g.pool d → LinePut before at (take_line call.reply) after n → q ≡ next_progress call.pool g.number
-      → CallAnswered g (SaidCall.Take d) before at after (record { progress = q; length = n })
-  taken_by_lem e p f = record { line = rw e at p; progress = f ∙ ap (λ (c : TakeCall). next_progress c.pool g.number) e }
-
-  pub given_by : {call : GiveCall} {frame : ℕ} → call ≡ give_of g.pool d frame → LinePut before at (give_line call.reply) after n → q ≡ next_progress call.pool g.number
-      → CallAnswered g (SaidCall.Give d frame) before at after (record { progress = q; length = n })
-  given_by e p f = record { line = rw e at p; progress = f ∙ ap (λ (c : GiveCall). next_progress c.pool g.number) e }
-
--- ---- By the case that a match has found
-
-pub line_as : {A : Type 0} (f : A → List ℕ) {x y : A} {before after : List ℕ} {at n : ℕ} → x ≡ y → LinePut before at (f y) after n → LinePut before at (f x) after n
-line_as f e p = rw e p
-
-pub call_as : {g : Progress} {s t : SaidCall} {before after : List ℕ} {at : ℕ} {r : LinesAnswered} → s ≡ t → CallAnswered g t before at after r
-    → CallAnswered g s before at after r
-call_as e c = rw e c
 
 -- ---- The lines of a text, one after the other
 
@@ -135,15 +111,15 @@ module _ {g : Progress} {text before after : List ℕ} {p : Progress} {n at : �
     unfolding answers_from progress_from
     answering_ended e = finished (rw (next-parted, e)) (rw (next-parted, e))
 
-    answer-whole : (s : SaidCall) {b : List ℕ} {r : LinesAnswered} → CallAnswered p s after n b r → r.length ≡ length (call_answer p s)
+    answer-whole : (s : Option SaidCall) {b : List ℕ} {r : LinesAnswered} → CallAnswered p s after n b r → r.length ≡ length (call_answer p s)
     answer-whole s c =
         let few = answer_short p s in
         c.line.long ∙ rw (le-leb (n + length (call_answer p s)) (length after) (omega (arith, answering_long, a.room, a.used)))
 
-    pub answering_fits : (s : SaidCall) {b : List ℕ} {r : LinesAnswered} → CallAnswered p s after n b r → n + r.length ≤ length before
+    pub answering_fits : (s : Option SaidCall) {b : List ℕ} {r : LinesAnswered} → CallAnswered p s after n b r → n + r.length ≤ length before
     answering_fits s c = omega (arith, a.room, a.used, answer-whole s c, answer_short p s)
 
-    pub answering_more : (l : List ℕ) (s : SaidCall) (next : ℕ) {b : List ℕ} {r : LinesAnswered} → p.ended ≡ false → l ≡ whole_line (drop at text) → s ≡ said_by l
+    pub answering_more : (l : List ℕ) (s : Option SaidCall) (next : ℕ) {b : List ℕ} {r : LinesAnswered} → p.ended ≡ false → l ≡ whole_line (drop at text) → s ≡ said_by l
         → CallAnswered p s after n b r → drop next text ≡ lines_after (drop at text) → (next ≤ length text) × (at < length text → at < next)
         → Answering g text before b r.progress (n + r.length) next
     unfolding answers_from progress_from
@@ -158,11 +134,11 @@ module _ {g : Progress} {text before after : List ℕ} {p : Progress} {n at : �
         let t = said_by (whole_line (drop at text)) in
         let given : answers_from p (parted (drop at text)) ≡ x ++ answers_from r.progress (parted (drop next text)) =
         ap (answers_from p) next-parted ∙ pick_false [] (call_answer p t ++ answers_from (after_said p t) rest) e
-        ∙ ap (λ (u : SaidCall). call_answer p u ++ answers_from (after_said p u) rest) (sym said) ∙ ap (λ (z : Progress). x ++ answers_from z rest) (sym c.progress)
+        ∙ ap (λ (u : Option SaidCall). call_answer p u ++ answers_from (after_said p u) rest) (sym said) ∙ ap (λ (z : Progress). x ++ answers_from z rest) (sym c.progress)
         ∙ ap (λ (m : List ℕ). x ++ answers_from r.progress (parted m)) (sym d) in
         let left : progress_from p (parted (drop at text)) ≡ progress_from r.progress (parted (drop next text)) =
         ap (progress_from p) next-parted ∙ pick_false p (progress_from (after_said p t) rest) e
-        ∙ ap (λ (u : SaidCall). progress_from (after_said p u) rest) (sym said) ∙ ap (λ (z : Progress). progress_from z rest) (sym c.progress)
+        ∙ ap (λ (u : Option SaidCall). progress_from (after_said p u) rest) (sym said) ∙ ap (λ (z : Progress). progress_from z rest) (sym c.progress)
         ∙ ap (λ (m : List ℕ). progress_from r.progress (parted m)) (sym d) in
         record {
           room = a.room;
@@ -188,12 +164,12 @@ silent g (l ∷ ls) e = rw e
 
 -- ---- The calls of some lines
 
-after_pool : (g : Progress) (s : SaidCall) (ls : List (List ℕ)) → ((after_said g s).ended ≡ false → (progress_from (after_said g s) ls).pool ≡ pool_after (after_said g s).pool (calls_said ls))
+after_pool : (g : Progress) (s : Option SaidCall) (ls : List (List ℕ)) → ((after_said g s).ended ≡ false → (progress_from (after_said g s) ls).pool ≡ pool_after (after_said g s).pool (calls_said ls))
     → (progress_from (after_said g s) ls).pool ≡ pool_after g.pool (then_calls s (calls_said ls))
 unfolding pool_after
-after_pool g (SaidCall.Take d) ls f = f refl
-after_pool g (SaidCall.Give d n) ls f = f refl
-after_pool g SaidCall.Neither ls f = ap (λ (q : Progress). q.pool) (stays (after_said g SaidCall.Neither) ls refl)
+after_pool g (Some (SaidCall.Take d)) ls f = f refl
+after_pool g (Some (SaidCall.Give d n)) ls f = f refl
+after_pool g None ls f = ap (λ (q : Progress). q.pool) (stays (after_said g None) ls refl)
 
 pub lines_calls : LinesAreCalls
 unfolding LinesAreCalls progress_from calls_said pool_after

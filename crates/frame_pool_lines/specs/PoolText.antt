@@ -1,11 +1,10 @@
 -- What `bin/pool` prints (document 02, Card 4): the answers to the lines of a text, one a line, up to the first line that says no call.
-use Rattle.std.specs.Prelude.{ℕ, ◌/◌, ◌≡◌, false, List, [], ◌∷◌, ◌++◌, length, take, drop, leb}
+use Rattle.std.specs.Prelude.{ℕ, ◌/◌, ◌≡◌, false, List, [], ◌∷◌, ◌++◌, length, take, drop, leb, Option, Some, None}
 use Rattle.layout.specs.Choice.{pick}
 use Rattle.key_lines.specs.Lines.{stop_line}
 use Rattle.script_words.specs.Texts.{parted, whole_lines}
 use Rattle.frame_pool.specs.FrameLists.{PoolCall, pool_after}
-use Rattle.frame_pool.specs.declared.TakeReply.{TakeReply}
-use Rattle.frame_pool.specs.declared.GiveReply.{GiveReply}
+use Rattle.frame_pool.specs.FramePool.{TakeReply, GiveReply}
 use Rattle.frame_pool_lines.specs.PoolLines.{said_by, take_line, give_line, no_call_line, call_answer, after_said, new_progress}
 use Rattle.frame_pool_lines.specs.declared.says.SaidCall.{SaidCall}
 use Rattle.frame_pool_lines.specs.declared.Progress.{Progress}
@@ -53,10 +52,10 @@ pub record PoolTextCases : Type 0 where
 -- ---- What holds of it
 
 -- The calls that some lines say, up to the first that says none.
-abbrev pub then_calls : SaidCall → List PoolCall → List PoolCall
-then_calls (SaidCall.Take d) cs = PoolCall.takes d ∷ cs
-then_calls (SaidCall.Give d f) cs = PoolCall.gives d f ∷ cs
-then_calls SaidCall.Neither cs = []
+abbrev pub then_calls : Option SaidCall → List PoolCall → List PoolCall
+then_calls (Some (SaidCall.Take d)) cs = PoolCall.takes d ∷ cs
+then_calls (Some (SaidCall.Give d f)) cs = PoolCall.gives d f ∷ cs
+then_calls None cs = []
 
 unfoldable pub calls_said : List (List ℕ) → List PoolCall
 calls_said [] = []

@@ -1,18 +1,18 @@
 // Takes and gives as lines of a text, and the lines of their answers (document 02, Card 4).
 #![tactic(auto)]
 
-ghost use Rattle.std.specs.Prelude.{◌≡◌, ◌+◌, length};
+ghost use Rattle.std.specs.Prelude.{◌≡◌, ◌+◌, length, None};
 ghost use Rattle.layout.specs.Puts.{put_at};
 ghost use Rattle.layout.specs.Sizes.{saturated};
 ghost use Rattle.key_lines.specs.Lines.{LinePut};
-ghost use Rattle.frame_pool_lines.specs.PoolLines.{take_line, give_line, no_call_line, new_progress, next_progress, CallAnswered};
-ghost use Rattle.frame_pool_lines.specs.declared.says.SaidCall.{SaidCall};
+ghost use Rattle.frame_pool_lines.specs.PoolLines.{reply_line, no_call_line, new_progress, next_progress, CallAnswered};
 ghost use Rattle.frame_pool_lines.specs.PoolText.{answers_in, answered_in, PoolTextCases, LinesAreCalls, PortionsAnswered};
 
 use crate::says::{SaidCall, said_by};
-use frame_pool::{DecoderId, GiveReply, Pool, TakeReply, give, new_pool, take};
+use frame_pool::{Pool, give, new_pool, take};
 use key_lines::line::put_line;
 use key_lines::{Column, put_stop};
+use layout::refusal::Refusal;
 use script_words::text::{next_line, whole_line_at};
 
 pub mod says; // says.rt: what a line says
@@ -45,46 +45,29 @@ pub fn new_progress() -> Progress
     }
 }
 
-fn put_take(out: &mut [u8], at: usize, reply: TakeReply) -> usize
-    ensures { LinePut out.old at (take_line reply) out.new result }
+// FRAM and the frame of a take, DONE of a give, or STOP and the number.
+fn put_reply(out: &mut [u8], at: usize, reply: Result<Option<usize>, Refusal>) -> usize
+    ensures { LinePut out.old at (reply_line reply) out.new result }
 {
-    let none = Column::Nothing;
     match reply {
-        TakeReply::Frame(frame) => {
-            let number = Column::Number(frame as u64);
-            put_line(out, at, b"FRAM", [number, none, none, none, none])
-        }
-        TakeReply::Refused(why) => put_stop(out, at, why),
-    }
-}
-
-fn put_give(out: &mut [u8], at: usize, reply: GiveReply) -> usize
-    ensures { LinePut out.old at (give_line reply) out.new result }
-{
-    let none = Column::Nothing;
-    match reply {
-        GiveReply::Given => put_line(out, at, b"DONE", [none, none, none, none, none]),
-        GiveReply::Refused(why) => put_stop(out, at, why),
+        Ok(Some(frame)) => put_line(out, at, b"FRAM", &[Column::Number(frame as u64)]),
+        Ok(None) => put_line(out, at, b"DONE", &[]),
+        Err(why) => put_stop(out, at, why.into()),
     }
 }
 
 fn put_no_call(out: &mut [u8], at: usize, number: u64) -> usize
     ensures { LinePut out.old at (no_call_line number) out.new result }
 {
-    let none = Column::Nothing;
-    put_line(
-        out,
-        at,
-        b"LINE",
-        [Column::Number(number), none, none, none, none],
-    )
+    put_line(out, at, b"LINE", &[Column::Number(number)])
 }
 
 // The number of the line after this one; there is none after the last number of 64 bits.
+#[tactic(auto, unfolding(layout::specs::Sizes::saturated))]
 fn next_number(n: u64) -> u64
     ensures { result ≡ saturated (n + 1) }
 {
-    if n < u64::MAX { n + 1 } else { n }
+    n.saturating_add(1)
 }
 
 fn next_progress(pool: Pool, number: u64) -> Progress
@@ -97,59 +80,50 @@ fn next_progress(pool: Pool, number: u64) -> Progress
     }
 }
 
-fn answer_take(from: Progress, who: DecoderId, out: &mut [u8], at: usize) -> LinesAnswered
-    ensures { CallAnswered from (SaidCall.Take who) out.old at out.new result }
-{
-    let pool = from.pool;
-    let call = take(pool, who);
-    let reply = call.reply;
-    let length = put_take(out, at, reply);
-    let after = call.pool;
-    let progress = next_progress(after, from.number);
-    LinesAnswered { progress, length }
-}
-
-fn answer_give(
-    from: Progress,
-    who: DecoderId,
-    frame: usize,
+// After a call that came to this pool.
+fn answer_reply(
+    number: u64,
+    pool: Pool,
+    reply: Result<Option<usize>, Refusal>,
     out: &mut [u8],
     at: usize,
 ) -> LinesAnswered
-    ensures { CallAnswered from (SaidCall.Give who frame) out.old at out.new result }
+    ensures line { LinePut out.old at (reply_line reply) out.new result.length }
+    ensures progress { result.progress ≡ next_progress pool number }
 {
-    let pool = from.pool;
-    let call = give(pool, who, frame);
-    let reply = call.reply;
-    let length = put_give(out, at, reply);
-    let after = call.pool;
-    let progress = next_progress(after, from.number);
+    let length = put_reply(out, at, reply);
+    let progress = next_progress(pool, number);
     LinesAnswered { progress, length }
 }
 
 fn answer_neither(from: Progress, out: &mut [u8], at: usize) -> LinesAnswered
-    ensures { CallAnswered from SaidCall.Neither out.old at out.new result }
+    ensures { CallAnswered from None out.old at out.new result }
 {
-    let pool = from.pool;
-    let number = from.number;
-    let length = put_no_call(out, at, number);
+    let length = put_no_call(out, at, from.number);
     LinesAnswered {
         progress: Progress {
-            pool,
-            number,
             ended: true,
+            ..from
         },
         length,
     }
 }
 
-fn answer_call(from: Progress, said: SaidCall, out: &mut [u8], at: usize) -> LinesAnswered
+fn answer_call(from: Progress, said: Option<SaidCall>, out: &mut [u8], at: usize) -> LinesAnswered
     ensures { CallAnswered from said out.old at out.new result }
 {
     match said {
-        SaidCall::Take(who) => answer_take(from, who, out, at),
-        SaidCall::Give(who, frame) => answer_give(from, who, frame, out, at),
-        SaidCall::Neither => answer_neither(from, out, at),
+        Some(SaidCall::Take(who)) => {
+            let call = take(from.pool, who);
+            let reply = call.reply.map(|frame| Some(frame));
+            answer_reply(from.number, call.pool, reply, out, at)
+        }
+        Some(SaidCall::Give(who, frame)) => {
+            let call = give(from.pool, who, frame);
+            let reply = call.reply.map(|()| None);
+            answer_reply(from.number, call.pool, reply, out, at)
+        }
+        None => answer_neither(from, out, at),
     }
 }
 

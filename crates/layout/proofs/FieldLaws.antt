@@ -7,7 +7,8 @@ use native.Mathlib.Omega.{arith}
 use lib.ListN.{length}
 use lib.Dec.{leb}
 use borrow.Author.Tests.{leb-true, leb-false, le-leb, lt-leb}
-use Rattle.std.specs.Prelude.{Result, Ok, Err}
+use Rattle.std.specs.Prelude.{Some, None, Result, Ok, Err}
+use Rattle.layout.specs.Choice.{pick}
 use Rattle.std.specs.Result.{IsErrAnd}
 use Rattle.layout.specs.Records.{Read, field}
 use Rattle.layout.specs.Answers.{number_of, says}
@@ -73,6 +74,16 @@ module _ {A : Type 0} {s : List ℕ} {past : ℕ} {a : A} where
   -- a refusal was answered: the field does not lie in the slot
   pub missed : {n : ℕ} → Read.refused n ≡ field s past a → Missed s past a n
   missed {n} e = field_refused s past a n (sym e)
+
+-- a value, or none, by the test that a field goes by
+module _ {A : Type 0} (s : List ℕ) (past : ℕ) (a : A) where
+  pub field_some : (x : A) → Some x ≡ pick (leb past (length s)) (Some a) None → Read.value x ≡ field s past a
+  unfolding field
+  field_some x e = by_cases (leb past (length s)) (λ t. let h : Some x ≡ Some a = rw t at e in rw t (cc)) (λ f. absurd (let h : Some x ≡ None = rw f at e in cc))
+
+  pub field_none : None ≡ pick (leb past (length s)) (Some a) None → Read.refused 1 ≡ field s past a
+  unfolding field
+  field_none e = by_cases (leb past (length s)) (λ t. absurd (let h : None ≡ Some a = rw t at e in cc)) (λ f. rw f)
 
 -- ---- Handing on
 

@@ -3,24 +3,13 @@
 
 ghost use Rattle.std.specs.Prelude.{◌≡◌};
 ghost use mathlib.Core.List.{◌++◌, flat_map};
-ghost use Rattle.layout.specs.Records.{be32, be_z16, format_number, channel_bytes, file_header_bytes, magic};
+ghost use Rattle.layout.specs.Records.{be32, be_z16, channel_bytes, file_header_bytes, magic};
 ghost use Rattle.layout.specs.Puts.{put_at};
 
 use layout::fields::inside;
 use layout::limits::{CHANNEL_SIZE, FILE_HEADER_SIZE};
-use layout::{Channel, DspFormat, MAGIC};
+use layout::{Channel, MAGIC};
 use layout_put::{put_bytes, put_context, put_i16, put_u16, put_u32, put_words};
-
-// No From<DspFormat> for u16: such an impl stands in the crate of DspFormat, and this one match says as much.
-fn format_number(f: DspFormat) -> u16
-    ensures { result ≡ format_number f }
-{
-    match f {
-        DspFormat::Adpcm => 0,
-        DspFormat::Pcm16 => 10,
-        DspFormat::Pcm8 => 25,
-    }
-}
 
 pub fn put_coefficients(buf: &mut [u8], at: usize, coefficients: [i16; 16])
     ensures { buf.new ≡ put_at buf.old at (flat_map be_z16 coefficients) }
@@ -37,7 +26,7 @@ fn put_channel(buf: &mut [u8], at: usize, c: Channel)
 {
     if inside(buf.len(), at, CHANNEL_SIZE) {
         put_u16(buf, at, u16::from(c.looping));
-        put_u16(buf, at + 2, format_number(c.format));
+        put_u16(buf, at + 2, u16::from(c.format));
         put_words(
             buf,
             at + 4,

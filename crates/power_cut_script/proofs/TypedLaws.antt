@@ -7,6 +7,9 @@ use native.Mathlib.Omega.{arith}
 use native.Mathlib.Nat.{le_of_suc-le-suc, not-suc-le-zero}
 use lib.ListN.{length, take, get_or, replicate, length-take, length-replicate, get_or-replicate}
 use lib.Dec.{eqb, ltb, leb}
+use lib.IntN.{pos}
+use Rattle.std.specs.Prelude.{Option, Some, None, IfSome}
+use Rattle.std.specs.Option.{unwrap_or}
 use mir.Syntax.{w16}
 use mir.Val.{SFits}
 use borrow.Author.Tests.{leb-true, ltb-true}
@@ -19,7 +22,8 @@ use Rattle.script_words.specs.Numbers.{decimal_from, decimal_of, below0, from0, 
 use Rattle.script_words.specs.Data.{digit_of, bytes_said}
 use Rattle.script_words.proofs.DataLaws.{data_length_lem}
 use Rattle.script_words.proofs.TextLaws.{word_short}
-use Rattle.script_lines.specs.Lines.{is_kind, line_kind, decimal_at, small_at, begin_line, cue_named, range_line, cue_said, push_line, coefficients_from, context_of, data_word, channel_block, side_said}
+use Rattle.script_lines.specs.Lines.{is_kind, line_kind, number_at, signed_at, begin_line, cue_named, range_line, cue_said, push_line, coefficients_from, context_of, data_word, channel_block, side_said}
+use Rattle.script_lines.proofs.LineLaws.{unwrap_small}
 use Rattle.script_lines.specs.declared.kinds.Kind.{Kind}
 use Rattle.script_lines.specs.declared.kinds.Kind.TheVariants as Kinds
 use Rattle.script_groups.specs.Order.{said, sides_in, lent_by, opening_from}
@@ -32,36 +36,44 @@ use Rattle.layout.specs.Refusals.{key_limit}
 
 -- ---- Numbers
 
-decimal_most : (max v : ℕ) (bs : List ℕ) → v ≤ max → (decimal_from max v bs).value ≤ max
+decimal_most : (max v : ℕ) (bs : List ℕ) → v ≤ max → IfSome (decimal_from max v bs) (λ n. n ≤ max)
 unfolding decimal_from
 decimal_most max v [] h = h
 decimal_most max v (b ∷ bs) h =
     by_cases (leb 48 b and leb b 57 and leb (10 * v + (b - 48)) max)
     (λ t. rw t (decimal_most max (10 * v + (b - 48)) bs (leb-true _ max (and_true (leb b 57) _ (and_true (leb 48 b) _ t).1).1)))
-    (λ t. rw t (omega arith))
+    (λ t. rw t tt)
 
-word_most : (max : ℕ) (w : List ℕ) → (decimal_of max w).value ≤ max
+word_most : (max : ℕ) (w : List ℕ) → IfSome (decimal_of max w) (λ n. n ≤ max)
 unfolding decimal_of
-word_most max [] = omega arith
+word_most max [] = tt
 word_most max (b ∷ bs) = decimal_most max 0 (b ∷ bs) (omega arith)
 
-at_most : (l : List ℕ) (i max : ℕ) → (decimal_at l i max).value ≤ max
-unfolding decimal_at
-at_most l i max = word_most max (word_from l i)
+at_most : (l : List ℕ) (i max : ℕ) → number_at l i max ≤ max
+unfolding number_at
+at_most l i max = unwrap_small (decimal_of max (word_from l i)) (word_most max (word_from l i))
 
 under-fits : (n : ℕ) → n ≤ 32768 → SFits w16 (under n)
 under-fits zero h = record { sfits = omega arith }
 under-fits (suc n) h = record { sfits = omega arith }
 
-small-fits : (w : List ℕ) → SFits w16 (small_of w).value
-unfolding small_of below0 from0
+below-fits : (n : Option ℕ) → IfSome n (λ k. k ≤ 32768) → SFits w16 (unwrap_or (below0 n) (pos 0))
+below-fits None h = record { sfits = omega arith }
+below-fits (Some n) h = under-fits n h
+
+from-fits : (n : Option ℕ) → IfSome n (λ k. k ≤ 32767) → SFits w16 (unwrap_or (from0 n) (pos 0))
+from-fits None h = record { sfits = omega arith }
+from-fits (Some n) h = record { sfits = omega arith }
+
+small-fits : (w : List ℕ) → SFits w16 (unwrap_or (small_of w) (pos 0))
+unfolding small_of
 small-fits [] = record { sfits = omega arith }
 small-fits (b ∷ bs) =
-    by_cases (eqb b 45) (λ t. rw t (under-fits _ (word_most 32768 bs)))
-    (λ t. rw t (record { sfits = omega (arith, word_most 32767 (b ∷ bs)) }))
+    by_cases (eqb b 45) (λ t. rw t (below-fits (decimal_of 32768 bs) (word_most 32768 bs)))
+    (λ t. rw t (from-fits (decimal_of 32767 (b ∷ bs)) (word_most 32767 (b ∷ bs))))
 
-at-fits : (l : List ℕ) (i : ℕ) → SFits w16 (small_at l i).value
-unfolding small_at
+at-fits : (l : List ℕ) (i : ℕ) → SFits w16 (signed_at l i)
+unfolding signed_at
 at-fits l i = small-fits (word_from l i)
 
 -- ---- Channels
@@ -185,7 +197,7 @@ typed_push l ls big a =
       right = typed_side _ big (all-at 1 (omega arith) sides);
     }
 
-typed_cue : (l : List ℕ) (k : Kind) → TypedCue (cue_said l k).cue
+typed_cue : (l : List ℕ) (k : Kind) → TypedCue (cue_said l k)
 unfolding cue_said range_line cue_named
 typed_cue l k =
     let start = at_most l 1 18446744073709551615 in
@@ -203,7 +215,7 @@ typed_call k l n ls big a =
     (λ t₁.
     by_cases (is_kind k Kinds.Finish) (λ t. rw (t₁, t) (more {x = finish (lent_of n)} (zeros_slice n) none))
     (λ t₂.
-    by_cases (is_kind k Kinds.Point or is_kind k Kinds.Loop or is_kind k Kinds.Range) (λ t. rw (t₁, t₂, t) (more {x = cue (cue_said l k).cue} (typed_cue l k) none)) (λ t. rw (t₁, t₂, t) none)))
+    by_cases (is_kind k Kinds.Point or is_kind k Kinds.Loop or is_kind k Kinds.Range) (λ t. rw (t₁, t₂, t) (more {x = cue (cue_said l k)} (typed_cue l k) none)) (λ t. rw (t₁, t₂, t) none)))
 
 typed_calls : {m : ℕ} (n : ℕ) {ls : List (List ℕ)} → m < 9223372036854775808 → All (Short m) ls → All Typed (calls_in n ls)
 unfolding calls_in

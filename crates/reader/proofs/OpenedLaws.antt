@@ -22,7 +22,7 @@ use Rattle.reader.specs.OpeningAndReading.{Walked, refused, walked, first_at, wa
 
 module _ {r : HpsReader} where
   not_opened : {A : Type 0} (n : ℕ) → Opened.refused n ≡ Opened.opened r → A
-  not_opened n e = absurd (let z : ◌≡◌ {A = ℕ} 0 1 = cc in omega arith)
+  not_opened n e = absurd cc
 
   past_test : (b : Bool) (n : ℕ) {x : Opened} → pick b (Opened.refused n) x ≡ Opened.opened r → (b ≡ false) × (x ≡ Opened.opened r)
   past_test true n e = not_opened n e
@@ -90,7 +90,7 @@ one_or_two n e =
 -- ---- The premise of the reading calls
 
 pub not_walked : {A : Type 0} (n : ℕ) (os : List ℕ) (start : Option ℕ) → Walked.refused n ≡ Walked.walked os start → A
-not_walked n os start e = absurd (let z : ◌≡◌ {A = ℕ} 0 1 = cc in omega arith)
+not_walked n os start e = absurd cc
 
 walked_few : (m : ℕ) {here os : List ℕ} {l start : Option ℕ} → length here ≤ m → Walked.walked here l ≡ Walked.walked os start → length os ≤ m
 walked_few m {here} {os} h e = let x : here ≡ os = cc in rw (← x) h

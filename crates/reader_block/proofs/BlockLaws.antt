@@ -27,7 +27,7 @@ module _ (slot start n len : ℕ) (c : FrameContext) where
   placed_out : {k : ℕ} → data_placed slot start n len c ≡ Read.refused k → (slot < start + n) × (k ≡ 1)
   placed_out e =
       by_cases (leb (start + n) slot)
-      (λ t. let q = rw t at e in absurd (let z : ◌≡◌ {A = ℕ} 0 1 = cc in omega arith))
+      (λ t. let q = rw t at e in absurd cc)
       (λ t. let q = rw t at e in (leb-false (start + n) slot t, cc))
 
   placed_in : (d : BlockData) → data_placed slot start n len c ≡ Read.value d
@@ -35,7 +35,7 @@ module _ (slot start n len : ℕ) (c : FrameContext) where
   placed_in d e =
       by_cases (leb (start + n) slot)
       (λ t. let k = rw t at e in (leb-true (start + n) slot t, cc))
-      (λ t. let k = rw t at e in absurd (let z : ◌≡◌ {A = ℕ} 0 1 = cc in omega arith))
+      (λ t. let k = rw t at e in absurd cc)
 
 -- the data of a block that was found
 pub record Given (s : List ℕ) (r : HpsReader) (ch i : ℕ) (d : BlockData) : Type 0 where
@@ -61,7 +61,7 @@ module _ (s : List ℕ) (r : HpsReader) (ch i : ℕ) (p : ch < r.count) (q : i <
   unfolding data_found data_part
   given d e =
       header_cases s (offset_in r i)
-      (λ t. let k = rw t at e in absurd (let z : ◌≡◌ {A = ℕ} 0 1 = cc in omega arith))
+      (λ t. let k = rw t at e in absurd cc)
       (λ h t.
       let k = rw (t, ← ef) at e in
       let n = bytes_in r h ch in

@@ -39,10 +39,9 @@ pub struct BlockCall {
 pub fn channel_of(channels: [Channel; 2], channel: usize) -> Channel
     ensures { result ≡ get_or channels channel no_channel }
 {
-    if channel < 2 {
-        channels[channel]
-    } else {
-        no_channel()
+    match channels.get(channel) {
+        Some(c) => *c,
+        None => no_channel(),
     }
 }
 

@@ -1,38 +1,24 @@
 -- The decoding call by its cases: no such channel, another format, and what block read gives.
-use Prim.Native.Nat.{ℕ, ◌≤◌, ◌<◌}
-use mathlib.Core.Path.{◌≡◌, refl, sym, ap}
+use Rattle.std.proofs.Common.{Option, Some, None, not, Bool, true}
+use Prim.Native.Nat.{ℕ, ◌+◌, ◌≤◌, ◌<◌}
+use mathlib.Core.Path.{◌≡◌, refl, sym, ap, ◌∙◌}
 use mathlib.Core.Bool.{false}
 use mathlib.Core.List.{List}
-use native.Mathlib.Omega.{arith}
+use lib.ListN.{length}
 use lib.IntN.{ℤ}
 use lib.Dec.{leb}
 use Rattle.layout.proofs.Cases.{by_cases}
 use Rattle.layout.specs.declared.DspFormat.{DspFormat}
-use borrow.Author.Tests.{lt-leb, le-leb}
+use borrow.Author.Tests.{lt-leb, le-leb, not-false}
 use Rattle.layout.specs.Records.{Read, adpcm_samples}
 use Rattle.layout.specs.declared.FrameContext.{FrameContext}
 use Rattle.reader.specs.OpeningAndReading.{BlockAnswer, channel_in, block_read}
 use Rattle.reader.specs.declared.HpsReader.{HpsReader}
-use Rattle.reader_block.specs.BlockAnswers.{block_call, block_data}
-use Rattle.reader_block.specs.declared.BlockReply.{BlockReply}
+use Rattle.reader_block.specs.BlockAnswers.{block_answer, block_position, block_data}
+use Rattle.reader_block.specs.declared.Block.{Block}
 use Rattle.adpcm_block.specs.Block.{Decoded, decoded_into, context_read, lent_after}
 use Rattle.adpcm_block.proofs.IntoLaws.{ContextGiven, refusal_given}
-use Rattle.reader_decode.specs.declared.Decoder.{Decoder}
-use Rattle.reader_decode.specs.declared.DecodeReply.{DecodeReply}
-use Rattle.reader_decode.specs.declared.DecodeCall.{DecodeCall}
-use Rattle.reader_decode.specs.Decoding.{decoder_at, DecodeAnswer, not_adpcm, due_early, on_decoded, on_block, decoding, decode_call, samples_after}
-
-number : {m n : ℕ} → BlockReply.Refused n ≡ BlockReply.Refused m → m ≡ n
-number e = cc
-
-apart_end : {n : ℕ} → BlockReply.Refused n ≡ BlockReply.End → ⊥
-apart_end e = let z : ◌≡◌ {A = ℕ} 0 1 = cc in omega arith
-
-apart-block : {n : ℕ} → BlockReply.Refused n ≡ BlockReply.Block → ⊥
-apart-block e = let z : ◌≡◌ {A = ℕ} 0 1 = cc in omega arith
-
-apart-both : BlockReply.End ≡ BlockReply.Block → ⊥
-apart-both e = let z : ◌≡◌ {A = ℕ} 0 1 = cc in omega arith
+use Rattle.reader_decode.specs.Decoding.{decoder_at, DecodeAnswer, not_adpcm, block_due, on_decoded, on_block, decoding, decoded_in, samples_after}
 
 module _ (s : List ℕ) (r : HpsReader) (ch i places : ℕ) where
   pub no_channel_lem : r.count ≤ ch → decoding s r ch i places ≡ DecodeAnswer.refused 6
@@ -45,64 +31,73 @@ module _ (s : List ℕ) (r : HpsReader) (ch i places : ℕ) where
 
   -- by what is due early
   module _ (f : DspFormat) (ef : (channel_in r ch).format ≡ f) where
-    pub early_refused : {n : ℕ} → BlockReply.Refused n ≡ due_early r.count ch f r.blocks i → decoding s r ch i places ≡ DecodeAnswer.refused n
-    unfolding decoding block_read on_block
-    early_refused {n} e =
-        by_cases (leb r.count ch) (λ t. let k = rw t at e in rw t (ap DecodeAnswer.refused (number k)))
-        (λ t. by_cases (not_adpcm f) (λ u. let k = rw (t, u) at e in rw t (rw ef (rw u (ap DecodeAnswer.refused (number k)))))
-        (λ u. by_cases (leb r.blocks i) (λ v. absurd (apart_end (rw (t, u, v) at e))) (λ v. absurd (apart-block (rw (t, u, v) at e)))))
-
-    pub early-ended : BlockReply.End ≡ due_early r.count ch f r.blocks i → decoding s r ch i places ≡ DecodeAnswer.ended
-    unfolding decoding block_read on_block
-    early-ended e =
-        by_cases (leb r.count ch) (λ t. absurd (apart_end (sym (rw t at e))))
-        (λ t. by_cases (not_adpcm f) (λ u. absurd (apart_end (sym (rw (t, u) at e))))
-        (λ u. by_cases (leb r.blocks i) (λ v. rw t (rw ef (rw u (rw v)))) (λ v. absurd (apart-both (rw (t, u, v) at e)))))
-
-    pub early-block : BlockReply.Block ≡ due_early r.count ch f r.blocks i → decoding s r ch i places ≡ on_block (block_read s r ch i) places
+    pub early_refused : {n : ℕ} → Read.refused n ≡ block_due r.count ch f r.blocks i → decoding s r ch i places ≡ DecodeAnswer.refused n
     unfolding decoding
-    early-block e =
-        by_cases (leb r.count ch) (λ t. absurd (apart-block (sym (rw t at e))))
-        (λ t. by_cases (not_adpcm f) (λ u. absurd (apart-block (sym (rw (t, u) at e)))) (λ u. rw t (rw ef (rw u))))
+    early_refused {n} e =
+        by_cases (leb r.count ch) (λ t. let k : Read.refused n ≡ Read.refused 6 = rw t at e in let m : 6 ≡ n = cc in rw t (ap DecodeAnswer.refused m))
+        (λ t. by_cases (not_adpcm f) (λ u. let k : Read.refused n ≡ Read.refused 30 = rw (t, u) at e in let m : 30 ≡ n = cc in rw t (rw ef (rw u (ap DecodeAnswer.refused m))))
+        (λ u. let k : Read.refused n ≡ Read.value (not (leb r.blocks i)) = rw (t, u) at e in absurd cc))
 
--- what block read's reply says of the answer
-pub block_refused : (a : BlockAnswer) (i places : ℕ) {n : ℕ} → (block_call i a).reply ≡ BlockReply.Refused n → on_block a places ≡ DecodeAnswer.refused n
+    -- past 6 and 30
+    due : {b : Bool} → Read.value b ≡ block_due r.count ch f r.blocks i → (decoding s r ch i places ≡ on_block (block_read s r ch i) places) × (leb r.count ch ≡ false) × (b ≡ not (leb r.blocks i))
+    unfolding decoding
+    due {b} e =
+        by_cases (leb r.count ch) (λ t. let k : Read.value b ≡ Read.refused 6 = rw t at e in absurd cc)
+        (λ t. by_cases (not_adpcm f) (λ u. let k : Read.value b ≡ Read.refused 30 = rw (t, u) at e in absurd cc)
+        (λ u. let k : Read.value b ≡ Read.value (not (leb r.blocks i)) = rw (t, u) at e in (rw t (rw ef (rw u)), t, cc)))
+
+    pub early-ended : {b : Bool} → Read.value b ≡ block_due r.count ch f r.blocks i → b ≡ false → decoding s r ch i places ≡ DecodeAnswer.ended
+    unfolding block_read on_block
+    early-ended e z =
+        let d = due e in
+        let k : leb r.blocks i ≡ true = not-false _ (sym d.2 ∙ z) in
+        d.0 ∙ rw d.1 (rw k)
+
+    pub early-block : {b : Bool} → Read.value b ≡ block_due r.count ch f r.blocks i → decoding s r ch i places ≡ on_block (block_read s r ch i) places
+    early-block e = (due e).0
+
+-- what block read's answer says of the decoding
+pub block_refused : (a : BlockAnswer) (places : ℕ) {n : ℕ} → Read.refused n ≡ block_answer a → on_block a places ≡ DecodeAnswer.refused n
 unfolding on_block
-block_refused (BlockAnswer.refused m) i places e = cc
-block_refused (BlockAnswer.refused_at m j) i places e = cc
-block_refused BlockAnswer.ended i places e = absurd (let z : ◌≡◌ {A = ℕ} 0 1 = cc in omega arith)
-block_refused (BlockAnswer.gave rate f cs gain n c start bytes j) i places e = absurd (let z : ◌≡◌ {A = ℕ} 0 1 = cc in omega arith)
+block_refused (BlockAnswer.refused m) places {n} e = let k : m ≡ n = cc in ap DecodeAnswer.refused k
+block_refused (BlockAnswer.refused_at m j) places {n} e = let k : m ≡ n = cc in ap DecodeAnswer.refused k
+block_refused BlockAnswer.ended places e = absurd cc
+block_refused (BlockAnswer.gave rate f cs gain n c start bytes j) places e = absurd cc
 
-pub block-ended : (a : BlockAnswer) (i places : ℕ) → (block_call i a).reply ≡ BlockReply.End → on_block a places ≡ DecodeAnswer.ended
+pub block-ended : (a : BlockAnswer) (places : ℕ) → Read.value None ≡ block_answer a → on_block a places ≡ DecodeAnswer.ended
 unfolding on_block
-block-ended (BlockAnswer.refused m) i places e = absurd (let z : ◌≡◌ {A = ℕ} 0 1 = cc in omega arith)
-block-ended (BlockAnswer.refused_at m j) i places e = absurd (let z : ◌≡◌ {A = ℕ} 0 1 = cc in omega arith)
-block-ended BlockAnswer.ended i places e = refl
-block-ended (BlockAnswer.gave rate f cs gain n c start bytes j) i places e = absurd (let z : ◌≡◌ {A = ℕ} 0 1 = cc in omega arith)
+block-ended (BlockAnswer.refused m) places e = absurd cc
+block-ended (BlockAnswer.refused_at m j) places e = absurd cc
+block-ended BlockAnswer.ended places e = refl
+block-ended (BlockAnswer.gave rate f cs gain n c start bytes j) places e = absurd cc
 
-pub block-given : (a : BlockAnswer) (i places : ℕ) → (block_call i a).reply ≡ BlockReply.Block
-    → (let q = block_call i a in on_block a places ≡ on_decoded (decoded_into places q.coefficients q.context q.length (block_data a)) q.position)
+pub block-given : (a : BlockAnswer) (i places : ℕ) {b : Block} → Read.value (Some b) ≡ block_answer a
+    → on_block a places ≡ on_decoded (decoded_into places b.coefficients b.context b.length (block_data a)) (block_position i a)
 unfolding on_block
-block-given (BlockAnswer.refused m) i places e = absurd (let z : ◌≡◌ {A = ℕ} 0 1 = cc in omega arith)
-block-given (BlockAnswer.refused_at m j) i places e = absurd (let z : ◌≡◌ {A = ℕ} 0 1 = cc in omega arith)
-block-given BlockAnswer.ended i places e = absurd (let z : ◌≡◌ {A = ℕ} 0 1 = cc in omega arith)
-block-given (BlockAnswer.gave rate f cs gain n c start bytes j) i places e = refl
+block-given (BlockAnswer.refused m) i places e = absurd cc
+block-given (BlockAnswer.refused_at m j) i places e = absurd cc
+block-given BlockAnswer.ended i places e = absurd cc
+block-given (BlockAnswer.gave rate f cs gain n c start bytes j) i places {b} e =
+    let k : b ≡ record { rate = rate; format = f; coefficients = cs; gain = gain; length = n; context = c; start = start; end = start + length bytes } = cc in rw k
 
--- the call's result by the answer
-module _ {a : DecodeAnswer} (d : Decoder) (lent : List ℤ) where
-  pub call_refused : {q : DecodeCall} {n : ℕ} → q ≡ decode_call d (DecodeAnswer.refused n) → a ≡ DecodeAnswer.refused n → (q ≡ decode_call d a) × (lent ≡ samples_after lent a)
-  call_refused e f = rw f (e, refl)
+-- a block that was given, decoded
+pub there : (s : List ℕ) (r : HpsReader) (ch i places : ℕ) {a : Read (Option Block)} {b : Block} {bytes : List ℕ} {j : ℕ} → decoding s r ch i places ≡ on_block (block_read s r ch i) places
+    → a ≡ block_answer (block_read s r ch i) → a ≡ Read.value (Some b) → bytes ≡ block_data (block_read s r ch i) → j ≡ block_position i (block_read s r ch i)
+    → decoding s r ch i places ≡ on_decoded (decoded_into places b.coefficients b.context b.length bytes) j
+there s r ch i places e g h d p = e ∙ rw (d, p) (block-given (block_read s r ch i) i places (sym h ∙ g))
 
-  pub call_ended : {q : DecodeCall} → q ≡ decode_call d DecodeAnswer.ended → a ≡ DecodeAnswer.ended → (q ≡ decode_call d a) × (lent ≡ samples_after lent a)
-  call_ended e f = rw f (e, refl)
+-- what is returned, and the lent places, by the answer
+module _ {a : DecodeAnswer} (lent : List ℤ) where
+  pub out : {n : ℕ} → a ≡ DecodeAnswer.refused n → (Read.refused n ≡ decoded_in a) × (lent ≡ samples_after lent a)
+  out e = rw e (refl, refl)
 
-  pub call_there : {b : DecodeAnswer} {q : DecodeCall} {now : List ℤ} → (q ≡ decode_call d b) × (now ≡ samples_after lent b) → a ≡ b → (q ≡ decode_call d a) × (now ≡ samples_after lent a)
-  call_there e f = rw f e
+  pub at_end : a ≡ DecodeAnswer.ended → (Read.value None ≡ decoded_in a) × (lent ≡ samples_after lent a)
+  at_end e = rw e (refl, refl)
 
-  pub call_undecoded : (x : Read Decoded) (j : ℕ) {q : DecodeCall} {k : ℕ} {now : List ℤ} → q ≡ decode_call d (DecodeAnswer.refused k) → a ≡ on_decoded x j
-      → Read.refused k ≡ context_read x → now ≡ lent_after x lent → (q ≡ decode_call d a) × (now ≡ samples_after lent a)
-  call_undecoded x j e f g v = let h = refusal_given x g in rw (f, h) (e, rw h at v)
+  pub undecoded : (x : Read Decoded) (j : ℕ) {k : ℕ} {now : List ℤ} → a ≡ on_decoded x j → Read.refused k ≡ context_read x → now ≡ lent_after x lent
+      → (Read.refused k ≡ decoded_in a) × (now ≡ samples_after lent a)
+  undecoded x j f g v = let h = refusal_given x g in rw (f, h) (refl, rw h at v)
 
-  pub call_decoded : (x : Read Decoded) (j : ℕ) {n count : ℕ} {after : FrameContext} {now : List ℤ} → a ≡ on_decoded x j → ContextGiven x n after → count ≡ adpcm_samples n
-      → now ≡ lent_after x lent → (record { reply = DecodeReply.Samples count; decoder = decoder_at j after } ≡ decode_call d a) × (now ≡ samples_after lent a)
-  call_decoded x j f g e v = rw (f, g.is) (rw (e, g.count, g.context), rw g.is at v)
+  pub decoded : (x : Read Decoded) (j : ℕ) {n count : ℕ} {after : FrameContext} {now : List ℤ} → a ≡ on_decoded x j → ContextGiven x n after → count ≡ adpcm_samples n
+      → now ≡ lent_after x lent → (Read.value (Some (count, decoder_at j after)) ≡ decoded_in a) × (now ≡ samples_after lent a)
+  decoded x j f g e v = rw (f, g.is) (rw (e, g.count, g.context) refl, rw g.is at v)

@@ -1,5 +1,5 @@
 -- Hearing the block (document 02, Card 1): the decoding call on a slot.
-use Rattle.std.specs.Prelude.{ℕ, zero, suc, Bool, true, false, List, [], ◌++◌, length, leb, ℤ}
+use Rattle.std.specs.Prelude.{ℕ, zero, suc, Bool, true, false, List, [], ◌++◌, length, leb, not, ℤ, Option, Some, None}
 use Rattle.layout.specs.Choice.{pick}
 use Rattle.layout.specs.Records.{Read, zero_context}
 use Rattle.layout.specs.declared.FrameContext.{FrameContext}
@@ -7,11 +7,8 @@ use Rattle.layout.specs.declared.DspFormat.{DspFormat}
 use Rattle.layout.specs.declared.DspFormat.TheVariants.{Adpcm, Pcm16, Pcm8}
 use Rattle.reader.specs.OpeningAndReading.{BlockAnswer, channel_in, block_read}
 use Rattle.reader.specs.declared.HpsReader.{HpsReader}
-use Rattle.reader_block.specs.declared.BlockReply.{BlockReply}
 use Rattle.adpcm_block.specs.Block.{Decoded, decoded_into, filled_with}
 use Rattle.reader_decode.specs.declared.Decoder.{Decoder}
-use Rattle.reader_decode.specs.declared.DecodeReply.{DecodeReply}
-use Rattle.reader_decode.specs.declared.DecodeCall.{DecodeCall}
 
 -- A decoder with this position and context.
 abbrev pub decoder_at : (position : ℕ) → FrameContext → Decoder
@@ -54,18 +51,24 @@ decoding s r ch i places =
 
 -- ---- What the call returns
 
--- What is due before a block is read.
-abbrev pub due_early : (count channel : ℕ) → DspFormat → (blocks position : ℕ) → BlockReply
-due_early count ch f blocks i =
-    pick (leb count ch) (BlockReply.Refused 6)
-    (pick (not_adpcm f) (BlockReply.Refused 30)
-    (pick (leb blocks i) BlockReply.End BlockReply.Block))
+-- What is due before a block is read: a refusal, or whether there is a block.
+abbrev pub block_due : (count channel : ℕ) → DspFormat → (blocks position : ℕ) → Read Bool
+block_due count ch f blocks i =
+    pick (leb count ch) (Read.refused 6)
+    (pick (not_adpcm f) (Read.refused 30)
+    (Read.value (not (leb blocks i))))
 
--- "tells how many places it filled"
-abbrev pub reply_of : DecodeAnswer → DecodeReply
-reply_of (DecodeAnswer.refused n) = DecodeReply.Refused n
-reply_of DecodeAnswer.ended = DecodeReply.End
-reply_of (DecodeAnswer.gave d i) = DecodeReply.Samples (length d.samples)
+-- "tells how many places it filled"; none at the end
+abbrev pub decode_answer : DecodeAnswer → Read (Option ℕ)
+decode_answer (DecodeAnswer.refused n) = Read.refused n
+decode_answer DecodeAnswer.ended = Read.value None
+decode_answer (DecodeAnswer.gave d i) = Read.value (Some (length d.samples))
+
+-- The same with the decoder after the block.
+abbrev pub decoded_in : DecodeAnswer → Read (Option (ℕ × Decoder))
+decoded_in (DecodeAnswer.refused n) = Read.refused n
+decoded_in DecodeAnswer.ended = Read.value None
+decoded_in (DecodeAnswer.gave d i) = Read.value (Some (length d.samples, decoder_at i d.context))
 
 -- "A refused decoding moves neither the position nor what passes on."; nor does the end
 abbrev pub decoder_after : Decoder → DecodeAnswer → Decoder
@@ -78,9 +81,6 @@ abbrev pub samples_after : (lent : List ℤ) → DecodeAnswer → List ℤ
 samples_after lent (DecodeAnswer.refused n) = lent
 samples_after lent DecodeAnswer.ended = lent
 samples_after lent (DecodeAnswer.gave d i) = filled_with d.samples lent
-
-abbrev pub decode_call : Decoder → DecodeAnswer → DecodeCall
-decode_call d a = record { reply = reply_of a; decoder = decoder_after d a }
 
 -- ---- Call after call
 

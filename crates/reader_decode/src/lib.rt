@@ -2,15 +2,16 @@
 #![tactic(auto)]
 
 ghost use Rattle.std.specs.Prelude.{◌≡◌, length};
-ghost use Rattle.reader.specs.OpeningAndReading.{Readable, block_read};
-ghost use Rattle.reader_decode.specs.Decoding.{new_decoder, not_adpcm, due_early, DecodeAnswer, on_block, decoding, decode_call, samples_after};
+ghost use Rattle.layout.specs.Answers.{says};
+ghost use Rattle.reader.specs.OpeningAndReading.{Readable};
+ghost use Rattle.reader_decode.specs.Decoding.{new_decoder, not_adpcm, block_due, decoding, decoded_in, decode_answer, decoder_after, samples_after};
 
 use adpcm_block::decode_block;
-use layout::answers::ContextRead;
+use layout::refusal::Refusal;
 use layout::{DspFormat, FrameContext};
 use layout_sizes::adpcm_samples;
 use reader::HpsReader;
-use reader_block::{BlockReply, block_data, channel_of, read_block};
+use reader_block::{block_data, channel_of, read_block};
 
 // The position of the next block, and what passes on: the context after the last sample.
 #[derive(Clone, Copy)]
@@ -20,16 +21,9 @@ pub struct Decoder {
 }
 
 #[derive(Clone, Copy)]
-pub enum DecodeReply {
-    Refused(u32),
-    End,
-    // How many places were filled.
-    Samples(usize),
-}
-
-#[derive(Clone, Copy)]
 pub struct DecodeCall {
-    pub reply: DecodeReply,
+    // How many places were filled, or none past the last block.
+    pub answer: Result<Option<usize>, Refusal>,
     pub decoder: Decoder,
 }
 
@@ -37,105 +31,78 @@ pub struct DecodeCall {
 pub fn new_decoder() -> Decoder
     ensures { result ≡ new_decoder }
 {
-    let context = FrameContext {
-        predictor_and_scale: 0,
-        last: 0,
-        oldest: 0,
-    };
     Decoder {
         position: 0,
-        context,
+        context: FrameContext {
+            predictor_and_scale: 0,
+            last: 0,
+            oldest: 0,
+        },
     }
 }
 
 fn not_adpcm(format: DspFormat) -> bool
     ensures { result ≡ not_adpcm format }
 {
-    match format {
-        DspFormat::Adpcm => false,
-        DspFormat::Pcm16 => true,
-        DspFormat::Pcm8 => true,
-    }
+    format != DspFormat::Adpcm
 }
 
-// What is due before a block is read: 6, 30 or the end.
-fn due_early(
+// What is due before a block is read: 6, 30 or the end. Whether there is a block.
+fn block_due(
     count: usize,
     channel: usize,
     format: DspFormat,
     blocks: usize,
     position: usize,
-) -> BlockReply
-    ensures { result ≡ due_early count channel format blocks position }
+) -> Result<bool, Refusal>
+    ensures { says result ≡ block_due count channel format blocks position }
 {
     let other = not_adpcm(format);
     if count <= channel {
-        return BlockReply::Refused(6);
+        return Err(Refusal::NoSuchChannel);
     }
     if other {
-        return BlockReply::Refused(30);
+        return Err(Refusal::NotAdpcm);
     }
     if blocks <= position {
-        return BlockReply::End;
+        return Ok(false);
     }
-    BlockReply::Block
+    Ok(true)
 }
 
-fn refused(number: u32, left: Decoder) -> DecodeCall
-    ensures { result ≡ decode_call left (DecodeAnswer.refused number) }
-{
-    DecodeCall {
-        reply: DecodeReply::Refused(number),
-        decoder: left,
-    }
-}
-
-fn ended(decoder: Decoder) -> DecodeCall
-    ensures { result ≡ decode_call decoder DecodeAnswer.ended }
-{
-    DecodeCall {
-        reply: DecodeReply::End,
-        decoder,
-    }
-}
-
-// The block at the decoder's position, which is there: read, and its data decoded.
-fn decode_there(
+// The block at the decoder's position, decoded: how many places it fills, and the decoder after it.
+fn decode_next(
     s: &[u8],
     r: HpsReader,
     channel: usize,
     decoder: Decoder,
     samples: &mut [i16],
-) -> DecodeCall
+) -> Result<Option<(usize, Decoder)>, Refusal>
     requires { Readable r }
-    ensures value { result ≡ decode_call decoder (on_block (block_read s.now r channel decoder.position) (length samples.old)) }
+    ensures value { says result ≡ decoded_in (decoding s.now r channel decoder.position (length samples.old)) }
     ensures samples_after { samples.new
-        ≡ samples_after samples.old (on_block (block_read s.now r channel decoder.position) (length samples.old)) }
+        ≡ samples_after samples.old (decoding s.now r channel decoder.position (length samples.old)) }
 {
     let position = decoder.position;
-    let block = read_block(s, r, channel, position);
-    let reply = block.reply;
-    match reply {
-        BlockReply::Refused(n) => refused(n, decoder),
-        BlockReply::End => ended(decoder),
-        BlockReply::Block => {
-            let n = block.length as usize;
-            let coefficients = block.coefficients;
-            let context = block.context;
-            let data = block_data(s, r, channel, position);
-            let read = decode_block(data, n, &coefficients, context, samples);
-            match read {
-                ContextRead::Refused(k) => refused(k, decoder),
-                ContextRead::Value(after) => DecodeCall {
-                    reply: DecodeReply::Samples(adpcm_samples(n)),
-                    decoder: Decoder {
-                        position: block.position,
-                        context: after,
-                    },
-                },
-            }
-        }
+    let side = channel_of(r.channels, channel);
+    let due = block_due(r.count, channel, side.format, r.blocks, position)?;
+    if !due {
+        return Ok(None);
     }
+    let call = read_block(s, r, channel, position);
+    let answer = call.answer?;
+    let Some(block) = answer else {
+        return Ok(None);
+    };
+    let n = block.length as usize;
+    let coefficients = block.coefficients;
+    let data = block_data(s, r, channel, position);
+    let after = decode_block(data, n, &coefficients, block.context, samples)?;
+    let decoder = Decoder {
+        position: call.position,
+        context: after,
+    };
+    Ok(Some((adpcm_samples(n), decoder)))
 }
 
 // The block at the decoder's position, decoded into the lent places from the first on. The decoder afterwards has the next position and the context after the
@@ -148,18 +115,23 @@ pub fn decode(
     samples: &mut [i16],
 ) -> DecodeCall
     requires { Readable r }
-    ensures value { result ≡ decode_call decoder (decoding s.now r channel decoder.position (length samples.old)) }
+    ensures answer { says result.answer ≡ decode_answer (decoding s.now r channel decoder.position (length samples.old)) }
+    ensures decoder_after { result.decoder ≡ decoder_after decoder (decoding s.now r channel decoder.position (length samples.old)) }
     ensures samples_after { samples.new
         ≡ samples_after samples.old (decoding s.now r channel decoder.position (length samples.old)) }
 {
-    let channels = r.channels;
-    let side = channel_of(channels, channel);
-    let format = side.format;
-    let position = decoder.position;
-    let due = due_early(r.count, channel, format, r.blocks, position);
-    match due {
-        BlockReply::Refused(n) => refused(n, decoder),
-        BlockReply::End => ended(decoder),
-        BlockReply::Block => decode_there(s, r, channel, decoder, samples),
+    match decode_next(s, r, channel, decoder, samples) {
+        Ok(Some((filled, after))) => DecodeCall {
+            answer: Ok(Some(filled)),
+            decoder: after,
+        },
+        Ok(None) => DecodeCall {
+            answer: Ok(None),
+            decoder,
+        },
+        Err(refusal) => DecodeCall {
+            answer: Err(refusal),
+            decoder,
+        },
     }
 }

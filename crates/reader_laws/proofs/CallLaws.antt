@@ -34,22 +34,22 @@ lengths_given s (o ∷ os) (more q a) =
 -- ---- The cue calls
 
 drop-next : (i : ℕ) (l : List ℕ) (o : ℕ) (os : List ℕ) → drop i l ≡ o ∷ os → drop (suc i) l ≡ os
-drop-next zero [] o os e = let z : ◌≡◌ {A = ℕ} 0 1 = cc in absurd (omega arith)
+drop-next zero [] o os e = absurd cc
 drop-next zero (x ∷ l) o os e = cc
-drop-next (suc i) [] o os e = let z : ◌≡◌ {A = ℕ} 0 1 = cc in absurd (omega arith)
+drop-next (suc i) [] o os e = absurd cc
 drop-next (suc i) (x ∷ l) o os e = drop-next i l o os e
 
 abbrev pub Taken : CueAnswer → Type 0
 Taken x = (n : ℕ) → x ≡ CueAnswer.refused n → ⊥
 
 loop_taken : (b : ℕ) → Taken (CueAnswer.loop b)
-loop_taken b n e = let z : ◌≡◌ {A = ℕ} 0 1 = cc in omega arith
+loop_taken b n e = cc
 
 point_taken : (a b : ℕ) → Taken (CueAnswer.point a b)
-point_taken a b n e = let z : ◌≡◌ {A = ℕ} 0 1 = cc in omega arith
+point_taken a b n e = cc
 
 ended_taken : Taken CueAnswer.ended
-ended_taken n e = let z : ◌≡◌ {A = ℕ} 0 1 = cc in omega arith
+ended_taken n e = cc
 
 -- the cues that the headers at these offsets count
 abbrev pub counted : List ℕ → List ℕ → ℕ

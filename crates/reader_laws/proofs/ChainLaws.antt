@@ -64,7 +64,7 @@ same_walked : {os xs : List ℕ} {a b : Option ℕ} → Walked.walked os a ≡ W
 same_walked e = (cc, cc)
 
 no_block : (i : ℕ) → None ≡ Some i → ⊥
-no_block i e = let z : ◌≡◌ {A = ℕ} 0 1 = cc in omega arith
+no_block i e = cc
 
 same_block : (i j : ℕ) → Some i ≡ Some j → j ≡ i
 same_block i j e = cc

@@ -29,18 +29,22 @@ fn block_at(offsets: &[u32], highest: u32, offset: u32) -> Option<usize>
     offsets.iter().position(|o| *o == offset)
 }
 
-// The walk, which leaves the offsets that it came past where it is refused.
+// The walk, which leaves the offsets that it came past where it is refused. Its loop counts by hand: document 01 has it left by label with the index found.
 fn walk_along(s: &[u8], offsets: &mut [u32]) -> Result<Walk, Refusal>
     ensures value { says result ≡ walk_of (walk_from (length offsets.old) s.now [] first_block_offset) }
     ensures offsets_after { IfOk result (λ w. offsets.new ≡ walked_over offsets.old (walk_from (length offsets.old) s.now [] first_block_offset)) }
 {
     let mut current = FIRST_BLOCK_OFFSET;
     let mut highest = 0;
-    for i in 0..offsets.len() {
+    let mut count = 0;
+    let first = 'walk: loop {
+        if count >= offsets.len() {
+            return Err(Refusal::TooManyBlocks);
+        }
         let header = read_header(s, current)?;
-        offsets[i] = current;
+        offsets[count] = current;
         highest = current.max(highest);
-        let count = i + 1;
+        count += 1;
         let next = header.next_offset;
         if next == END_BLOCK_OFFSET {
             return Ok(Walk {
@@ -48,13 +52,15 @@ fn walk_along(s: &[u8], offsets: &mut [u32]) -> Result<Walk, Refusal>
                 count,
             });
         }
-        let loop_start = block_at(&offsets[..count], highest, next);
-        if loop_start.is_some() {
-            return Ok(Walk { loop_start, count });
+        if let Some(i) = block_at(&offsets[..count], highest, next) {
+            break 'walk i;
         }
         current = next;
-    }
-    Err(Refusal::TooManyBlocks)
+    };
+    Ok(Walk {
+        loop_start: Some(first),
+        count,
+    })
 }
 
 // From the first block along the next offsets, until the end or a block already walked. Each block's offset is put into a lent place; a block for which

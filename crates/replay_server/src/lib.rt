@@ -7,8 +7,8 @@ ghost use Rattle.reader.specs.OpeningAndReading.{opening};
 ghost use Rattle.replay_server.specs.ServersPart.{is_due, applied, write_applied, header_applied, reply_applied};
 
 use layout::fields::inside;
+use layout::refusal::Refusal;
 use layout_put::put_bytes;
-use reader::answers::OpenReply;
 use reader_open::open;
 use replay_input::part;
 use writer::{Place, Reply};
@@ -17,23 +17,16 @@ use writer::{Place, Reply};
 fn opens_as(s: &[u8], opens: bool) -> bool
     ensures { result ≡ is_due (opening s.now) opens }
 {
-    let opened = open(s);
-    let reply = opened.reply;
-    match reply {
-        OpenReply::Opened => opens,
-        OpenReply::Refused(n) => {
-            if opens {
-                return false;
-            }
-            if n == 2 {
-                return true;
-            }
-            n == 3
+    match open(s) {
+        Ok(_) => opens,
+        Err(refusal) => {
+            !opens && matches!(refusal, Refusal::WrongMagic | Refusal::WrongChannelCount)
         }
     }
 }
 
 // The server carries a write out, of so many bytes from a place of the lent buffer on, and opens the slot.
+#[tactic(auto, unfolding(crate::specs::ServersPart::write_applied))]
 fn apply_write(
     slot: &mut [u8],
     n: usize,
@@ -53,6 +46,7 @@ fn apply_write(
 }
 
 // Finish's three writes: their bytes lie in the lent buffer one after the other.
+#[tactic(auto, unfolding(crate::specs::ServersPart::header_applied))]
 fn apply_header(
     slot: &mut [u8],
     n: usize,
@@ -63,16 +57,13 @@ fn apply_header(
 ) -> bool
     ensures { applied result slot.new ≡ header_applied slot.old n start rest mark lent.now }
 {
-    if !apply_write(slot, n, start, lent, 0, 15, false) {
-        return false;
-    }
-    if !apply_write(slot, n, rest, lent, 15, 112, false) {
-        return false;
-    }
-    apply_write(slot, n, mark, lent, 127, 1, true)
+    apply_write(slot, n, start, lent, 0, 15, false)
+        && apply_write(slot, n, rest, lent, 15, 112, false)
+        && apply_write(slot, n, mark, lent, 127, 1, true)
 }
 
 // Whether a call answered with this number, or with 0 if it was accepted, finish with this length too; the writes of an accepted call are carried out.
+#[tactic(auto, unfolding(crate::specs::ServersPart::reply_applied))]
 pub fn is_applied(
     slot: &mut [u8],
     n: usize,
@@ -88,19 +79,10 @@ pub fn is_applied(
         Reply::Refused(number) => number == due,
         Reply::NoWrite => due == 0,
         Reply::OneWrite(place) => {
-            if due != 0 {
-                return false;
-            }
-            apply_write(slot, n, place, lent, 0, place.length, false)
+            due == 0 && apply_write(slot, n, place, lent, 0, place.length, false)
         }
         Reply::ThreeWrites(finished, start, rest, mark) => {
-            if due != 0 {
-                return false;
-            }
-            if finished != length {
-                return false;
-            }
-            apply_header(slot, n, start, rest, mark, lent)
+            due == 0 && finished == length && apply_header(slot, n, start, rest, mark, lent)
         }
     }
 }

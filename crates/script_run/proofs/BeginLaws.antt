@@ -22,8 +22,9 @@ use Rattle.cut_write_log.specs.WriteLog.{empty_log, Logging, logging, log_all}
 use Rattle.cut_logged_calls.specs.LoggedCalls.{lent_of, log_after, log_size}
 use Rattle.cut_logged_calls.specs.declared.Made.{Made}
 use Rattle.script_run.specs.Script.{begun_length, begins, calls_in, calls_of, script_limit}
-use Rattle.script_run.specs.Running.{log_run, script_log, is_refused, refused_reply, begin_refused, begun_log, not_run, load_log, loaded_by, CallMade}
-use Rattle.script_run.specs.declared.loading.Loaded.{Loaded}
+use Rattle.script_run.specs.Running.{log_run, script_log, is_refused, refused_reply, begin_refused, accepted_log, begun_log, not_run, load_log, loaded_by, CallMade}
+use Rattle.cut_write_log.specs.declared.WriteLog.{WriteLog}
+use Rattle.std.specs.Prelude.{Option, Some, None}
 use Rattle.layout.specs.Refusals.{slot_limit, slot_least, key_limit}
 
 -- Begin's answer is a refusal, or 0; a slot of more than 65,536 bytes is refused.
@@ -64,8 +65,8 @@ unfolding log_after log_all
 refused_log o g h = rw (refused_places o.reply h)
 
 -- What a script's calls leave.
-abbrev Leaves : (slot : ℕ) → (s logged : List ℕ) → Loaded → List ℕ → Type 0
-Leaves slot s logged q k = (q ≡ record { refused = begin_refused slot s; log = (begun_log slot s logged).log }) × (k ≡ (begun_log slot s logged).bytes)
+abbrev Leaves : (slot : ℕ) → (s logged : List ℕ) → Option WriteLog → List ℕ → Type 0
+Leaves slot s logged q k = (q ≡ accepted_log (begin_refused slot s) (begun_log slot s logged).log) × (k ≡ (begun_log slot s logged).bytes)
 
 module _ (slot : ℕ) (logged : List ℕ) {n : ℕ} {s line : List ℕ} {st : Start} {b : BeginLine} {r : Bool} {m : Made} {after : List ℕ} (start : Starts s key_limit st)
     (el : line ≡ line_of (drop st.at s)) (eb : b ≡ begin_line line) (en : n ≡ begun_length slot) (made : CallMade (begin_by n b st) (logging empty_log logged) m after)
@@ -77,38 +78,38 @@ module _ (slot : ℕ) (logged : List ℕ) {n : ℕ} {s line : List ℕ} {st : St
   answer-is : r ≡ begin_refused slot s
   answer-is = er ∙ rw made.0 (ap (λ (x : Outcome). is_refused (answer_of x)) is-begins)
 
-  pub loads_nothing : {q : Loaded} → r ≡ true → q ≡ record { refused = true; log = empty_log } → Leaves slot s logged q after
+  pub loads_nothing : {q : Option WriteLog} → r ≡ true → q ≡ None → Leaves slot s logged q after
   unfolding begun_log
   loads_nothing t e =
       let a : begin_refused slot s ≡ true = sym answer-is ∙ t in
       (e ∙ rw a, made.1.0 ∙ rw (is-begins, refused_log (begins slot s) (logging empty_log logged) a, a))
 
-  pub loads_all : (next : ℕ) {q : Loaded} {k : List ℕ} → r ≡ false → drop next s ≡ lines_after (drop st.at s)
-      → (q ≡ record { refused = false; log = (log_run m.writer (logging m.log after) (calls_in st.lent (lines_of (drop next s)))).log })
+  pub loads_all : (next : ℕ) {j : WriteLog} {k : List ℕ} → r ≡ false → drop next s ≡ lines_after (drop st.at s)
+      → (j ≡ (log_run m.writer (logging m.log after) (calls_in st.lent (lines_of (drop next s)))).log)
       × (k ≡ (log_run m.writer (logging m.log after) (calls_in st.lent (lines_of (drop next s)))).bytes)
-      → Leaves slot s logged q k
+      → Leaves slot s logged (Some j) k
   unfolding begun_log script_log calls_of
   loads_all next f d h =
       let a : begin_refused slot s ≡ false = sym answer-is ∙ f in
       let e : log_run m.writer (logging m.log after) (calls_in st.lent (lines_of (drop next s))) ≡ script_log slot s logged =
       rw (made.0, made.1.0, is-begins, d, start.rest, start.buffer) in
-      (h.0 ∙ rw (a, e), h.1 ∙ rw (a, e))
+      (rw (h.0, a, e), h.1 ∙ rw (a, e))
 
 -- ---- Too long a script, too little room
 
 -- What loading it leaves.
-abbrev Loads : (slot : ℕ) → (s logged : List ℕ) → Loaded → List ℕ → Type 0
+abbrev Loads : (slot : ℕ) → (s logged : List ℕ) → Option WriteLog → List ℕ → Type 0
 Loads slot s logged q k = (q ≡ loaded_by slot s logged) × (k ≡ (load_log slot s logged).bytes)
 
-module _ (slot : ℕ) (s logged : List ℕ) {q : Loaded} where
-  loads_none : not_run s logged ≡ true → q ≡ record { refused = true; log = empty_log } → Loads slot s logged q logged
+module _ (slot : ℕ) (s logged : List ℕ) {q : Option WriteLog} where
+  loads_none : not_run s logged ≡ true → q ≡ None → Loads slot s logged q logged
   unfolding load_log
   loads_none t e = (e ∙ rw t, rw t)
 
-  pub too_long : script_limit < length s → q ≡ record { refused = true; log = empty_log } → Loads slot s logged q logged
+  pub too_long : script_limit < length s → q ≡ None → Loads slot s logged q logged
   too_long h = loads_none (rw (lt-ltb script_limit (length s) h))
 
-  pub too_little : length s ≤ script_limit → length logged < log_size → q ≡ record { refused = true; log = empty_log } → Loads slot s logged q logged
+  pub too_little : length s ≤ script_limit → length logged < log_size → q ≡ None → Loads slot s logged q logged
   too_little h l = loads_none (rw (le-ltb script_limit (length s) h, lt-ltb (length logged) log_size l))
 
   pub enough : {k : List ℕ} → length s ≤ script_limit → log_size ≤ length logged → Leaves slot s logged q k → Loads slot s logged q k

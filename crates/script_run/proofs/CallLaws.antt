@@ -17,11 +17,11 @@ use Rattle.script_words.specs.Texts.{uncommented, line_of}
 use Rattle.script_words.specs.Data.{bytes_said}
 use Rattle.script_words.proofs.DataLaws.{data_length_lem}
 use Rattle.script_words.proofs.TextLaws.{word_short}
-use Rattle.script_lines.specs.Lines.{is_kind, data_word, channel_line, cue_said, push_line, side_said}
+use Rattle.script_lines.specs.Lines.{is_kind, data_word, channel_block, cue_said, push_line, side_said}
 use Rattle.script_lines.specs.declared.kinds.Kind.{Kind}
 use Rattle.script_lines.specs.declared.kinds.Kind.TheVariants as Kinds
 use Rattle.script_lines.specs.declared.lines.PushLine.{PushLine}
-use Rattle.script_lines.specs.declared.channels.ChannelLine.{ChannelLine}
+use Rattle.writer.specs.declared.ChannelBlock.{ChannelBlock}
 use Rattle.script_lines.proofs.LineLaws.{not_kind}
 use Rattle.script_groups.specs.Order.{sides_in}
 use Rattle.writer.specs.Loading.{Call, cue, push, finish, cue_refusal, push_args}
@@ -70,10 +70,10 @@ module _ (l z : List ℕ) {w b : List ℕ} {n : ℕ} (short : length l ≤ scrip
 -- ---- Push
 
 module _ (w : HpsWriter) (lent : List ℕ) (g : Logging) {m : Made} {after : List ℕ} where
-  pub sides_made : (p : PushLine) (left right : List ℕ) {x y : ChannelLine} {d f : List ℕ} → x ≡ channel_line left → y ≡ channel_line right → d ≡ bytes_said (data_word left)
+  pub sides_made : (p : PushLine) (left right : List ℕ) {x y : ChannelBlock} {d f : List ℕ} → x ≡ channel_block left → y ≡ channel_block right → d ≡ bytes_said (data_word left)
       → f ≡ bytes_said (data_word right)
-      → CallMade (push_of w (push_args p.channels x.block y.block d f p.last) lent) g m after → CallMade (push_of w (push_with p left right) lent) g m after
-  unfolding push_with side_said channel_line
+      → CallMade (push_of w (push_args p.channels x y d f p.last) lent) g m after → CallMade (push_of w (push_with p left right) lent) g m after
+  unfolding push_with side_said
   sides_made p left right ex ey ed ef h = rw (ex, ey, ed, ef) at h
 
   pub push_made : (l : List ℕ) (ls : List (List ℕ)) {p : PushLine} {left right : List ℕ} → p ≡ push_line l → left ≡ get_or (sides_in p.channels ls) 0 [] → right ≡ get_or (sides_in p.channels ls) 1 []
@@ -122,7 +122,7 @@ module _ (k : Kind) {w : HpsWriter} {g : Logging} {m : Made} {after : List ℕ} 
   unfolding call_by
   make_finish e h = rw e (makes_one (finish (lent_of n)) h)
 
-  pub make_cue : Cue-Kind k → Makes (cue (cue_said l k).cue ∷ []) w g m after → Makes (call_by k l n ls) w g m after
+  pub make_cue : Cue-Kind k → Makes (cue (cue_said l k) ∷ []) w g m after → Makes (call_by k l n ls) w g m after
   unfolding call_by
   make_cue o h = rw ((a_cue k o).0, (a_cue k o).1.0, (a_cue k o).1.1) h
 

@@ -17,7 +17,6 @@ use Rattle.cut_logged_calls.specs.declared.Made.{Made}
 use Rattle.script_run.specs.Script.{call_by, calls_in}
 use Rattle.script_run.specs.Running.{log_run, Makes, all_of, Follows}
 use Rattle.script_run.specs.declared.loading.Loading.{Loading}
-use Rattle.script_run.specs.declared.loading.Loaded.{Loaded}
 
 pub follows : {s : List ℕ} {at : ℕ} (next : ℕ) {st : Loading} {logged line : List ℕ} {kind : Kind} {m : Made} {after : List ℕ} {lent : ℕ} (call : ℕ) → at < length s
     → drop next s ≡ lines_after (drop at s) → line ≡ line_of (drop at s) → kind ≡ line_kind line
@@ -55,7 +54,7 @@ module _ {s : List ℕ} {from : ℕ} {start : Loading} {logged : List ℕ} {at :
 -- What comes after begin.
 pub rest-is : (m : Made) (lent call : ℕ) (logged : List ℕ) (ls : List (List ℕ)) {j : WriteLog} {after : List ℕ}
     → logging j after ≡ all_of (record { writer = m.writer; log = m.log; lent = lent; call = call }) logged ls
-    → (◌≡◌ {A = Loaded} (record { refused = false; log = j }) (record { refused = false; log = (log_run m.writer (logging m.log logged) (calls_in lent ls)).log }))
+    → (j ≡ (log_run m.writer (logging m.log logged) (calls_in lent ls)).log)
     × (after ≡ (log_run m.writer (logging m.log logged) (calls_in lent ls)).bytes)
 unfolding all_of
-rest-is m lent call logged ls e = (ap (λ (g : Logging). record { refused = false; log = g.log }) e, ap (λ (g : Logging). g.bytes) e)
+rest-is m lent call logged ls e = (ap (λ (g : Logging). g.log) e, ap (λ (g : Logging). g.bytes) e)

@@ -1,7 +1,7 @@
 -- What is logged of a script: all its writes, where there is room.
 use Prim.Native.Nat.{ℕ, ◌≤◌}
-use mathlib.Core.Path.{◌≡◌, sym, ◌∙◌}
-use mathlib.Core.Bool.{false}
+use mathlib.Core.Path.{◌≡◌, refl, sym, ◌∙◌}
+use mathlib.Core.Bool.{Bool, true, false}
 use mathlib.Core.List.{List, [], ◌∷◌, ◌++◌, append-nil, append_assoc}
 use native.Mathlib.Omega.{arith}
 use lib.ListN.{length}
@@ -23,8 +23,9 @@ use Rattle.cut_write_log.proofs.WriteLogLaws.{none-listed, listed-all}
 use Rattle.cut_logged_calls.specs.LoggedCalls.{lent_of, log_size, log_after, Tally}
 use Rattle.cut_logged_calls.proofs.TallyLaws.{Tallied, push_tallied, finish_tallied, begin-is, begin_tally}
 use Rattle.script_run.specs.Script.{begun_length, begin_line_in, begins, calls_of, script_writes, script_limit}
-use Rattle.script_run.specs.Running.{log_run, script_log, begin_refused, begun_log, not_run, load_log, loaded_by}
-use Rattle.script_run.specs.declared.loading.Loaded.{Loaded}
+use Rattle.script_run.specs.Running.{log_run, script_log, begin_refused, accepted_log, begun_log, not_run, load_log, loaded_by}
+use Rattle.cut_write_log.specs.declared.WriteLog.{WriteLog}
+use Rattle.std.specs.Prelude.{Some, None}
 use Rattle.script_run.proofs.CallLaws.{cue_log}
 use Rattle.script_run.proofs.BeginLaws.{begin-accepted, small_slot}
 
@@ -73,6 +74,14 @@ run_listed w g (c ∷ cs) l = run_listed (step w c).writer (log_after (step w c)
 
 -- ---- A script
 
+some_log : (r : Bool) {j k : WriteLog} → Some j ≡ accepted_log r k → (r ≡ false) × (j ≡ k)
+some_log true e = absurd (cc)
+some_log false e = (refl, cc)
+
+no_log : (r : Bool) (k : WriteLog) → None ≡ accepted_log r k → r ≡ true
+no_log true k e = refl
+no_log false k e = absurd (cc)
+
 module _ (slot : ℕ) (s logged : List ℕ) where
   script_listed : Listed (script_log slot s logged).log (script_log slot s logged).bytes
   unfolding script_log log_after
@@ -97,21 +106,25 @@ module _ (slot : ℕ) (s logged : List ℕ) where
       run_writes (begins slot s).writer (log_after (begins slot s) (logging empty_log logged)) (calls_of s) (begin_good n b.channels b.mode lent) t
       ∙ rw (begin-is n b.channels b.mode lent logged (omega arith))
 
-  module _ {q : Loaded} {after : List ℕ} (h : (q ≡ loaded_by slot s logged) × (after ≡ (load_log slot s logged).bytes)) where
-    -- The bytes of all writes that are logged are there.
-    pub loaded_listed : Listed q.log after
-    loaded_listed = rw (h.0, h.1) load_listed
+  -- The script is not too long, and there is room: "If begin is refused, its STOP line is the whole answer"; else all its writes are logged.
+  module _ (few : length s ≤ script_limit) (room : log_size ≤ length logged) where
+    run : not_run s logged ≡ false
+    run = rw (le-ltb script_limit (length s) few, le-ltb (length logged) log_size room)
 
-    -- The script is not too long, and there is room: "If begin is refused, its STOP line is the whole answer"; else all its writes are logged.
-    module _ (few : length s ≤ script_limit) (room : log_size ≤ length logged) where
-      run : not_run s logged ≡ false
-      run = rw (le-ltb script_limit (length s) few, le-ltb (length logged) log_size room)
+    pub loaded_none : None ≡ loaded_by slot s logged → begin_refused slot s ≡ true
+    loaded_none e = no_log (begin_refused slot s) _ (rw run at e)
 
-      pub loaded_refused : q.refused ≡ begin_refused slot s
-      loaded_refused = rw (h.0, run)
+    module _ {j : WriteLog} {after : List ℕ} (h : Some j ≡ loaded_by slot s logged) (g : after ≡ (load_log slot s logged).bytes) where
+      said : (begin_refused slot s ≡ false) × (j ≡ (load_log slot s logged).log)
+      said = some_log (begin_refused slot s) (rw run at h)
 
-      pub loaded_is : q.refused ≡ false → logged_writes q.log after ≡ script_writes slot s
+      pub loaded_accepted : begin_refused slot s ≡ false
+      loaded_accepted = said.0
+
+      -- The bytes of all writes that are logged are there.
+      pub loaded_listed : Listed j after
+      loaded_listed = rw (said.1, g) load_listed
+
+      pub loaded_is : logged_writes j after ≡ script_writes slot s
       unfolding load_log begun_log
-      loaded_is f =
-          let r : begin_refused slot s ≡ false = sym loaded_refused ∙ f in
-          rw (h.0, h.1, run, r) (script_is room r)
+      loaded_is = rw (said.1, g, run, said.0) (script_is room said.0)

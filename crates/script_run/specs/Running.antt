@@ -1,5 +1,5 @@
 -- A script's calls carried out one after the other.
-use Rattle.std.specs.Prelude.{ℕ, ◌≡◌, Bool, true, false, List, [], ◌∷◌, ◌++◌, length, drop, ltb}
+use Rattle.std.specs.Prelude.{ℕ, ◌≡◌, Bool, true, false, List, [], ◌∷◌, ◌++◌, length, drop, ltb, Option, Some, None}
 use Rattle.layout.specs.Choice.{pick, ◌or◌}
 use Rattle.script_words.specs.Texts.{lines_after, lines_of}
 use Rattle.writer.specs.Loading.{Call, Answer, refused, accepted}
@@ -8,11 +8,11 @@ use Rattle.writer.specs.declared.HpsWriter.{HpsWriter}
 use Rattle.writer.specs.declared.Reply.{Reply}
 use Rattle.power_cut.specs.PowerCut.{step}
 use Rattle.cut_write_log.specs.WriteLog.{empty_log, Logging, logging}
+use Rattle.cut_write_log.specs.declared.WriteLog.{WriteLog}
 use Rattle.cut_logged_calls.specs.LoggedCalls.{log_size, log_after, made_by}
 use Rattle.cut_logged_calls.specs.declared.Made.{Made}
 use Rattle.script_run.specs.Script.{calls_in, begins, calls_of, script_limit}
 use Rattle.script_run.specs.declared.loading.Loading.{Loading}
-use Rattle.script_run.specs.declared.loading.Loaded.{Loaded}
 
 -- ---- A script's log
 
@@ -48,9 +48,13 @@ not_run s logged = ltb script_limit (length s) or ltb (length logged) log_size
 unfoldable pub load_log : (slot : ℕ) → (script logged : List ℕ) → Logging
 load_log n s logged = pick (not_run s logged) (logging empty_log logged) (begun_log n s logged)
 
--- What loading a script gives.
-abbrev pub loaded_by : (slot : ℕ) → (script logged : List ℕ) → Loaded
-loaded_by n s logged = record { refused = not_run s logged or begin_refused n s; log = (load_log n s logged).log }
+-- The log of a script that is accepted.
+abbrev pub accepted_log : (refused : Bool) → WriteLog → Option WriteLog
+accepted_log r j = pick r None (Some j)
+
+-- What loading a script gives: no log where no call is made, and where begin is refused.
+abbrev pub loaded_by : (slot : ℕ) → (script logged : List ℕ) → Option WriteLog
+loaded_by n s logged = accepted_log (not_run s logged or begin_refused n s) (load_log n s logged).log
 
 -- ---- Calls and lines on the way
 

@@ -32,7 +32,7 @@ unfoldable pub call_by : Kind → List ℕ → (lent : ℕ) → (after : List (L
 call_by k l n ls =
     pick (is_kind k Kinds.Push) (push (push_by l ls) (lent_of n) ∷ [])
     (pick (is_kind k Kinds.Finish) (finish (lent_of n) ∷ [])
-    (pick (is_kind k Kinds.Point or is_kind k Kinds.Loop or is_kind k Kinds.Range) (cue (cue_said l k).cue ∷ []) []))
+    (pick (is_kind k Kinds.Point or is_kind k Kinds.Loop or is_kind k Kinds.Range) (cue (cue_said l k) ∷ []) []))
 
 -- The calls of these lines, the lent buffer being so long before them.
 unfoldable pub calls_in : (lent : ℕ) → List (List ℕ) → List Call

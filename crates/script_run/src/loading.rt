@@ -1,15 +1,15 @@
 // A script's lines one after the other.
-ghost use Rattle.std.specs.Prelude.{◌≡◌, true, false, ◌≤◌, ◌<◌, length, drop};
+ghost use Rattle.std.specs.Prelude.{◌≡◌, ◌≤◌, ◌<◌, length, drop};
 ghost use Rattle.script_words.specs.Texts.{lines_after, lines_of};
 ghost use Rattle.writer.specs.Calls.{Good};
-ghost use Rattle.cut_write_log.specs.WriteLog.{empty_log, logging};
+ghost use Rattle.cut_write_log.specs.WriteLog.{logging};
 ghost use Rattle.script_run.specs.Script.{begun_length, calls_in, script_limit};
-ghost use Rattle.script_run.specs.Running.{log_run, all_of, Follows, refused_reply, begin_refused, begun_log, load_log, loaded_by};
+ghost use Rattle.script_run.specs.Running.{log_run, all_of, Follows, refused_reply, begin_refused, accepted_log, begun_log, load_log, loaded_by};
 
 use crate::made::make;
 use crate::report::{Output, report_call, report_line};
 use cut_logged_calls::{LENT, Made, begin_logged};
-use cut_write_log::{WriteLog, empty_log};
+use cut_write_log::WriteLog;
 use layout::limits::{FILE_HEADER_SIZE, KEY_LIMIT, SLOT_LIMIT};
 use script_groups::{lent_after, start_of};
 use script_lines::kinds::{Kind, kind_of};
@@ -34,13 +34,6 @@ pub struct Loading {
     pub log: WriteLog,
     pub lent: usize,
     pub call: u64,
-}
-
-// What a script leaves: whether begin was refused, and the writes.
-#[derive(Clone, Copy)]
-pub struct Loaded {
-    pub refused: bool,
-    pub log: WriteLog,
 }
 
 // The line that starts here.
@@ -106,22 +99,7 @@ fn begun_length(n: usize) -> usize
 fn is_refused(reply: Reply) -> bool
     ensures { result ≡ refused_reply reply }
 {
-    match reply {
-        Reply::Refused(_) => true,
-        Reply::NoWrite => false,
-        Reply::OneWrite(_) => false,
-        Reply::ThreeWrites(_, _, _, _) => false,
-    }
-}
-
-// No call made: what a script that is too long, or has no room for its writes, leaves.
-fn nothing() -> Loaded
-    ensures { result ≡ record { refused = true; log = empty_log } }
-{
-    Loaded {
-        refused: true,
-        log: empty_log(),
-    }
+    matches!(reply, Reply::Refused(_))
 }
 
 // The calls after an accepted begin, of the lines from here on.
@@ -132,9 +110,9 @@ fn load_rest<W: Write>(
     m: Made,
     lent: usize,
     logged: &mut [u8],
-) -> Loaded
+) -> WriteLog
     requires { Good m.writer × (length s.now ≤ script_limit) }
-    ensures value { result ≡ record { refused = false; log = (log_run m.writer (logging m.log logged.old) (calls_in lent (lines_of (drop from s.now)))).log } }
+    ensures value { result ≡ (log_run m.writer (logging m.log logged.old) (calls_in lent (lines_of (drop from s.now)))).log }
     ensures logged_after { logged.new ≡ (log_run m.writer (logging m.log logged.old) (calls_in lent (lines_of (drop from s.now)))).bytes }
 {
     let writer = m.writer;
@@ -145,52 +123,62 @@ fn load_rest<W: Write>(
         lent,
         call: 1,
     };
-    let end = load_lines(v, s, from, start, logged);
-    let log = end.log;
-    Loaded {
-        refused: false,
-        log,
-    }
+    load_lines(v, s, from, start, logged).log
 }
 
 // Tells begin's call: its refusal in every case, since it is the whole answer then.
 fn report_begin<W: Write>(v: &mut Output<'_, W>, refused: bool, reply: Reply, log: WriteLog) {
-    if v.verbose | refused {
+    if v.verbose || refused {
         report_call(v.to, 0, reply, log, 0);
     }
 }
 
-// The calls of a script that is not too long.
-fn load_script<W: Write>(v: &mut Output<'_, W>, s: &[u8], slot: usize, logged: &mut [u8]) -> Loaded
+// The calls of a script that is not too long; none where begin is refused.
+fn load_script<W: Write>(
+    v: &mut Output<'_, W>,
+    s: &[u8],
+    slot: usize,
+    logged: &mut [u8],
+) -> Option<WriteLog>
     requires { length s.now ≤ script_limit }
-    ensures value { result ≡ record { refused = begin_refused slot s.now; log = (begun_log slot s.now logged.old).log } }
+    ensures value { result ≡ accepted_log (begin_refused slot s.now) (begun_log slot s.now logged.old).log }
     ensures logged_after { logged.new ≡ (begun_log slot s.now logged.old).bytes }
 {
     let start = start_of(s, LENT);
     let line = begin_line(line_at(s, start.at));
-    let mode = line.mode;
-    let m = begin_logged(begun_length(slot), line.channels, mode, start.lent, logged);
+    let m = begin_logged(
+        begun_length(slot),
+        line.channels,
+        line.mode,
+        start.lent,
+        logged,
+    );
     let reply = m.reply;
-    let log = m.log;
     let refused = is_refused(reply);
-    report_begin(v, refused, reply, log);
+    report_begin(v, refused, reply, m.log);
     if refused {
-        return nothing();
+        return None;
     }
     let next = next_line(s, start.at);
-    load_rest(v, s, next, m, start.lent, logged)
+    Some(load_rest(v, s, next, m, start.lent, logged))
 }
 
-// The calls of a well-formed script on a slot of this length; a refused begin ends it.
-pub fn load<W: Write>(mut v: Output<'_, W>, s: &[u8], slot: usize, logged: &mut [u8]) -> Loaded
+// The calls of a well-formed script on a slot of this length, and the writes that they leave; none where begin is refused, which ends the script, and where no
+// call is made, the script being too long or the room for the writes too small.
+pub fn load<W: Write>(
+    mut v: Output<'_, W>,
+    s: &[u8],
+    slot: usize,
+    logged: &mut [u8],
+) -> Option<WriteLog>
     ensures value { result ≡ loaded_by slot s.now logged.old }
     ensures logged_after { logged.new ≡ (load_log slot s.now logged.old).bytes }
 {
     if s.len() > SCRIPT_LIMIT {
-        return nothing();
+        return None; // too long
     }
     if logged.len() < LOG_SIZE {
-        return nothing();
+        return None;
     }
     load_script(&mut v, s, slot, logged)
 }

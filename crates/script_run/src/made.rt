@@ -47,13 +47,11 @@ fn push_sides(
     let n = put_data(&mut left_data, 0, data_word(left));
     let mut right_data = data_room();
     let m = put_data(&mut right_data, 0, data_word(right));
-    let l = channel_line(left);
-    let r = channel_line(right);
     push_logged(
         w,
         p.channels as usize,
-        l.block,
-        r.block,
+        channel_line(left),
+        channel_line(right),
         &left_data[..n],
         &right_data[..m],
         p.last,
@@ -93,11 +91,9 @@ fn push_call(
 // A cue line's call, which hands out nothing.
 fn cue_call(line: &[u8], kind: Kind, w: HpsWriter, j: WriteLog) -> Made
     requires { Good w }
-    ensures { (logged : List ℕ) → Makes (Loading.cue (cue_said line.now kind).cue ∷ []) w (logging j logged) result logged }
+    ensures { (logged : List ℕ) → Makes (Loading.cue (cue_said line.now kind) ∷ []) w (logging j logged) result logged }
 {
-    let said = cue_line(line, kind);
-    let c = said.cue;
-    let call = cue(w, c);
+    let call = cue(w, cue_line(line, kind));
     let writer = call.writer;
     let reply = call.reply;
     Made {

@@ -3,7 +3,7 @@ use cut_report::{print_line, reply_line, write_line};
 use cut_write_log::WriteLog;
 use script_lines::kinds::Kind;
 use std::io::Write;
-use writer::{MOST_WRITES, Reply};
+use writer::Reply;
 
 // Where calls are reported, and whether they are.
 #[derive(Drop)]
@@ -14,14 +14,8 @@ pub struct Output<'a, W> {
 
 // The writes logged from here on.
 fn report_writes<W: Write>(to: &mut W, call: u64, log: WriteLog, from: usize) {
-    let places = log.places;
-    let mut i = from;
-    while i < log.count {
-        if i < MOST_WRITES {
-            let place = places[i];
-            print_line(to, write_line(call, place));
-        }
-        i += 1;
+    for place in log.places.iter().take(log.count).skip(from) {
+        print_line(to, write_line(call, *place));
     }
 }
 
@@ -39,14 +33,10 @@ pub(crate) fn report_call<W: Write>(
 
 // Whether a line makes a call: CHAN's is made at its PUSH.
 fn makes_call(kind: Kind) -> bool {
-    match kind {
-        Kind::Nothing | Kind::Channel | Kind::Lent | Kind::Unknown => false,
-        _ => true,
-    }
-}
-
-fn one_more(n: u64) -> u64 {
-    if n < 18446744073709551615 { n + 1 } else { n }
+    !matches!(
+        kind,
+        Kind::Nothing | Kind::Channel | Kind::Lent | Kind::Unknown
+    )
 }
 
 // Reports a line's call, if it makes one and calls are reported; the next call's number.
@@ -64,5 +54,5 @@ pub(crate) fn report_line<W: Write>(
     if v.verbose {
         report_call(v.to, call, reply, log, from);
     }
-    one_more(call)
+    call.saturating_add(1)
 }

@@ -1,14 +1,14 @@
 -- For the proof of finish: its refusals, the header, its bytes in the order of the writes, and what finish leaves.
 use Prim.Native.Nat.{ℕ, ◌/◌, ◌%◌, ◌<◌, ◌≤◌}
 use mathlib.Core.Path.{◌≡◌, refl, sym, ◌∙◌}
-use mathlib.Core.Bool.{Bool, true, false, not}
 use mathlib.Core.List.{List, ◌++◌, append_assoc, append-nil}
 use native.Mathlib.Omega.{arith}
-use borrow.Author.Tests.{lt-ltb, le-ltb, eq-eqb, ne_eqb, eqb-false, ltb-false}
+use borrow.Author.Tests.{eqb-false, ltb-false}
 use lib.Dec.{eqb}
 use lib.ListN.{length, take, drop, replicate, length-append, length-take, length-drop}
 use Rattle.layout.specs.Records.{be32, no_channel, file_header_bytes, file_header_size}
-use Rattle.layout.specs.Refusals.{first_due}
+use Rattle.layout.specs.Answers.{number_of}
+use Rattle.layout.specs.declared.refusal.Refusal.{Refusal}
 use Rattle.layout.specs.Puts.{put_at}
 use Rattle.layout.specs.declared.Channel.{Channel}
 use Rattle.layout.proofs.Cases.{by_cases}
@@ -16,37 +16,13 @@ use Rattle.layout.proofs.Lengths.{file_header-length}
 use Rattle.layout.proofs.PutLaws.{Put, put_then, put_at_in}
 use Rattle.writer.specs.declared.ChannelBlock.{ChannelBlock}
 use Rattle.writer.specs.declared.HpsWriter.{HpsWriter}
-use Rattle.writer.specs.declared.Reply.TheVariants.{Refused, ThreeWrites}
+use Rattle.writer.specs.declared.Reply.TheVariants.{ThreeWrites}
 use Rattle.writer.specs.declared.Called.{Called}
-use Rattle.writer.specs.Loading.{finish_refusal, filled, second, header_for, header_writes}
+use Rattle.writer.specs.Loading.{finish_refusal, filled, second, header_for, header_writes, start_write, rest_write, mark_write}
 use Rattle.writer.specs.WritesAndCuttingRule.{handed}
-use Rattle.writer.specs.Calls.{header_of, after_finish, finish_of, called, Good}
-use Rattle.writer.proofs.DueLaws.{passed_finish}
+use Rattle.writer.specs.Calls.{Handed, refuses, header_of, after_finish, finish_of, called, Good}
+use Rattle.writer.proofs.DueLaws.{passed_finish, is_refused}
 use Rattle.writer.proofs.GoodLaws.{finish_good}
-
--- ---- The refusals, in their order
-
-module _ (done : Bool) (n : ℕ) (last : Bool) (lent : ℕ) where
-  pub finish_26 : done ≡ true → 26 ≡ finish_refusal done n last lent
-  unfolding first_due
-  finish_26 h = rw h
-
-  pub finish_27 : done ≡ false → n ≡ 0 → 27 ≡ finish_refusal done n last lent
-  unfolding first_due
-  finish_27 d h = rw (d, eq-eqb n 0 h)
-
-  module _ (d : done ≡ false) (some : n ≡ 0 → ⊥) where
-    pub finish_28 : not last ≡ true → 28 ≡ finish_refusal done n last lent
-    unfolding first_due
-    finish_28 h = rw (d, ne_eqb n 0 some, h)
-
-    pub finish_14 : not last ≡ false → lent < file_header_size → 14 ≡ finish_refusal done n last lent
-    unfolding first_due
-    finish_14 l h = rw (d, ne_eqb n 0 some, l, lt-ltb lent file_header_size h)
-
-    pub finish_fine : not last ≡ false → file_header_size ≤ lent → 0 ≡ finish_refusal done n last lent
-    unfolding first_due
-    finish_fine l h = rw (d, ne_eqb n 0 some, l, le-ltb lent file_header_size h)
 
 -- ---- The header's bytes in the lent buffer
 
@@ -109,33 +85,27 @@ header_is b ch n k l r x y hl hr ex ey ek e =
 
 -- ---- What finish leaves
 
-module _ (w : HpsWriter) (lent : List ℕ) (g : Good w) (r : ℕ) (e : r ≡ finish_refusal w.finished w.stream.blocks w.stream.last (length lent)) where
-  abbrev Leaves : Called → List ℕ → Type 0
-  Leaves q l = (q ≡ called (finish_of w lent)) × ((l ≡ (finish_of w lent).lent) × Good q.writer)
+module _ (w : HpsWriter) (lent : List ℕ) (g : Good w) where
+  pub finish_refused : (x : Refusal) → number_of x ≡ finish_refusal w.finished w.stream.blocks w.stream.last (length lent) → finish_of w lent ≡ refuses w lent (number_of x)
+  unfolding finish_of
+  finish_refused x e =
+      let h = header_of w in
+      is_refused w (after_finish w) lent (Handed.three w.stream.offset (start_write h) (rest_write h) (mark_write h)) x e
 
-  module _ (h : r ≡ 0 → ⊥) where
-    pub refused_lent : lent ≡ (finish_of w lent).lent
-    unfolding finish_of
-    refused_lent = rw (← e, ne_eqb r 0 h)
-
-    pub refused_answer : (q : Called) → q ≡ record { reply = Refused r; writer = w } → q ≡ called (finish_of w lent)
-    unfolding finish_of
-    refused_answer q eq = rw (eq, ← e, ne_eqb r 0 h)
-
-    pub refused_good : (q : Called) → q ≡ record { reply = Refused r; writer = w } → Good q.writer
-    refused_good q eq = rw eq g
-
-  module _ (z : r ≡ 0) where
+  module _ (e : 0 ≡ finish_refusal w.finished w.stream.blocks w.stream.last (length lent)) where
     pub sum_fits : (0 < w.stream.sum) × (w.stream.sum ≤ 4294967296)
     sum_fits =
-        let b = eqb-false w.stream.blocks 0 (passed_finish _ _ _ _ (sym e ∙ z)).no27 in
+        let b = eqb-false w.stream.blocks 0 (passed_finish _ _ _ _ (sym e)).no27 in
         omega (arith, g.counted, g.sums, g.many)
 
     pub room : file_header_size ≤ length lent
-    room = ltb-false (length lent) file_header_size (passed_finish _ _ _ _ (sym e ∙ z)).no14
+    room = ltb-false (length lent) file_header_size (passed_finish _ _ _ _ (sym e)).no14
+
+    abbrev Leaves : Called → List ℕ → Type 0
+    Leaves q l = (q ≡ called (finish_of w lent)) × ((l ≡ (finish_of w lent).lent) × Good q.writer)
 
     pub finish_accepted : (h l : List ℕ) (v : HpsWriter) → h ≡ header_of w → length h ≡ file_header_size → l ≡ handed (header_writes h) ++ drop file_header_size lent → v ≡ after_finish w
         → Leaves (record { reply = ThreeWrites w.stream.offset (record { offset = 0; length = 15 }) (record { offset = 16; length = 112 }) (record { offset = 15; length = 1 }); writer = v }) l
     unfolding finish_of
     finish_accepted h l v eh size el ev =
-        rw (← e, z, ← eh, start_15 h size, rest_112 h size, mark_1 h size, handed_128 h size, ev, el) (refl, (refl, finish_good w (length lent) g (sym e ∙ z)))
+        rw (← e, ← eh, start_15 h size, rest_112 h size, mark_1 h size, handed_128 h size, ev, el) (refl, (refl, finish_good w (length lent) g (sym e)))

@@ -5,9 +5,11 @@ ghost use Rattle.std.specs.Prelude.{◌≡◌, ◌++◌, ◌≤◌, ◌<◌, ◌
 ghost use Rattle.writer.specs.Loading.{finish_refusal, filled, second, header_for, header_writes};
 ghost use Rattle.writer.specs.WritesAndCuttingRule.{handed};
 ghost use Rattle.writer.specs.Calls.{Good, finish_of, called};
+ghost use Rattle.layout.specs.Answers.{due_number};
 ghost use Rattle.layout.specs.Records.{file_header_size};
 
 use layout::limits::FILE_HEADER_SIZE;
+use layout::refusal::Refusal;
 use layout::{Channel, DspFormat, no_channel};
 use layout_put::put_bytes;
 use layout_put_header::put_file_header;
@@ -29,23 +31,24 @@ const MARK: Place = Place {
     length: 1,
 };
 
-// The first number due, 0 where none is.
-fn finish_due(finished: bool, blocks: usize, last: bool, lent: usize) -> u32
-    ensures { result ≡ finish_refusal finished blocks last lent }
+// Why finish is refused, if it is.
+#[tactic(auto, unfolding(layout::specs::Refusals::first_due))]
+fn finish_due(finished: bool, blocks: usize, last: bool, lent: usize) -> Result<(), Refusal>
+    ensures { due_number result ≡ finish_refusal finished blocks last lent }
 {
     if finished {
-        return 26;
+        return Err(Refusal::AfterLast);
     }
     if blocks == 0 {
-        return 27;
+        return Err(Refusal::NoBlock);
     }
     if !last {
-        return 28;
+        return Err(Refusal::NotLast);
     }
     if lent < FILE_HEADER_SIZE {
-        return 14;
+        return Err(Refusal::LentTooShort);
     }
-    0
+    Ok(())
 }
 
 // A channel in use: the end address is that of the whole stream, the rest the first block's.
@@ -54,7 +57,6 @@ fn filled(sum: u64, first: ChannelBlock) -> Channel
     ensures { result ≡ filled sum first }
 {
     let coefficients = first.coefficients;
-    let context = first.context;
     Channel {
         looping: true,
         format: DspFormat::Adpcm,
@@ -63,7 +65,7 @@ fn filled(sum: u64, first: ChannelBlock) -> Channel
         current_address: 2,
         coefficients,
         gain: first.gain,
-        context,
+        context: first.context,
     }
 }
 
@@ -111,15 +113,6 @@ fn hand_out(header: &[u8], lent: &mut [u8])
     put_bytes(lent, 127, &header[15..16]);
 }
 
-fn refused(w: HpsWriter, number: u32) -> Called
-    ensures { result ≡ record { reply = Reply.Refused number; writer = w } }
-{
-    Called {
-        reply: Reply::Refused(number),
-        writer: w,
-    }
-}
-
 // Finish: byte 15 comes last, so that the header counts only once it is whole.
 pub fn finish(w: HpsWriter, lent: &mut [u8]) -> Called
     requires { Good w }
@@ -128,13 +121,13 @@ pub fn finish(w: HpsWriter, lent: &mut [u8]) -> Called
     ensures good { Good result.writer }
 {
     let stream = w.stream;
-    let r = finish_due(w.finished, stream.blocks, stream.last, lent.len());
-    if r != 0 {
-        return refused(w, r);
+    if let Err(refusal) = finish_due(w.finished, stream.blocks, stream.last, lent.len()) {
+        return Called {
+            reply: Reply::Refused(refusal.into()),
+            writer: w,
+        };
     }
-    let left = stream.left;
-    let right = stream.right;
-    let bytes = header(w.setup.channels, stream.sum, left, right);
+    let bytes = header(w.setup.channels, stream.sum, stream.left, stream.right);
     hand_out(&bytes, lent);
     Called {
         reply: Reply::ThreeWrites(stream.offset, START, REST, MARK),

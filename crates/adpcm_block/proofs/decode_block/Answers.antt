@@ -1,12 +1,8 @@
 use Prim.Native.Nat.{◌≤◌, ◌<◌}
 use native.Mathlib.Omega.{arith}
 use lib.ListN.{length}
-use mir.Syntax.{w16}
-use mir.Val.{SFits}
-use mir.Facts.{to_z-of_z}
 use Rattle.layout.specs.Records.{adpcm_bytes, adpcm_samples}
 use Rattle.adpcm_block.proofs.IntoLaws.{data_short, places_few, refused_leaves, decoded_fills}
-use borrow.Author.Rules.{rules}
 use Rattle.adpcm_block.proofs.decode_block.Goals as goal
 use Rattle.adpcm_block.proofs.decode_block.Goals.{Else-block-bytes, Else-samples-count}
 
@@ -43,15 +39,12 @@ room c = omega (arith, c.adpcm_samples-count.ensures, c.if-samples-count.false)
 pub returns : goal.returns
 returns c =
     let a = c.args in
-    let q = c.decode_frames-after in
-    let f : SFits w16 a.context.last = search rules in
-    let g : SFits w16 a.context.oldest = search rules in
-    let e = simp (to_z-of_z f, to_z-of_z g) at q.ensures in
-    let all = decoded_fills _ a.coefficients.now a.context a.n a.block.now (whole (goal.at.returns c).Else-block-bytes) (room (goal.at.returns c).Else-samples-count) a.samples.now e.value e.samples_after in
+    let q = c.decode_frames in
+    let all = decoded_fills _ a.coefficients.now a.context a.n a.block.now (whole (goal.at.returns c).Else-block-bytes) (room (goal.at.returns c).Else-samples-count) a.samples.now q.ensures.value q.ensures.samples_after in
     record {
       result_value = all.0;
       samples_after = all.1;
     }
 
-pub decode_frames-after-requires : goal.decode_frames-after-requires
-decode_frames-after-requires c = (whole (goal.at.decode_frames-after-requires c).Else-block-bytes, room (goal.at.decode_frames-after-requires c).Else-samples-count)
+pub decode_frames-requires : goal.decode_frames-requires
+decode_frames-requires c = (whole (goal.at.decode_frames-requires c).Else-block-bytes, room (goal.at.decode_frames-requires c).Else-samples-count)

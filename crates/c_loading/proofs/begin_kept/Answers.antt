@@ -1,110 +1,72 @@
-use mathlib.Core.Path.{◌≡◌, refl, ap, sym, ◌∙◌}
+use mathlib.Core.Path.{◌≡◌, ap, ◌∙◌}
 use native.Mathlib.Omega.{arith}
 use lib.ListN.{length}
-use borrow.Author.Tests.{lt-ltb, le-ltb}
+use Rattle.std.proofs.Common.{Err}
 use Rattle.layout.specs.Puts.{put_at}
-use Rattle.layout.proofs.PutLaws.{put_at-length}
 use Rattle.writer.specs.Loading.{mode_of}
-use Rattle.writer.specs.Calls.{called, begin_of}
+use Rattle.writer.specs.Calls.{called, begin_of, Outcome}
 use Rattle.writer.specs.declared.Called.{Called}
-use Rattle.c_loading.specs.KeptLoading.{call_in, call_of}
-use Rattle.c_loading.specs.declared.KeptCall.{KeptCall}
 use Rattle.writer.specs.declared.Looping.{Looping}
+use Rattle.c_loading.specs.KeptLoading.{place_in, bytes_begun}
 use Rattle.c_record.specs.Fields.{fields_of}
 use Rattle.c_record.specs.declared.Fields.{Fields}
 use Rattle.c_record.specs.KeptWriter.{writer_in}
 use Rattle.c_record_put.specs.KeptRecord.{record_bytes}
 use Rattle.c_record_put.proofs.RecordLaws.{record_put}
 use Rattle.c_loading.proofs.BackLaws.{begin-after, begin-sixteen}
-use Rattle.c_loading.proofs.CallLaws.{leaves, left_as, given_as, begin-number, begin_lent}
-use Rattle.c_record.specs.KeptSides.{loader_size}
-use Rattle.c_record_put.specs.KeptNumbers.{number_bytes}
+use Rattle.c_loading.proofs.CallLaws.{left_err, mode_gives, begin_err, begin_ok}
 use Rattle.c_loading.proofs.begin_kept.Goals as goal
-use Rattle.c_loading.proofs.begin_kept.Goals.{After-begin-call, After-call_of-answer}
+use Rattle.c_loading.proofs.begin_kept.Goals.{After-begin-call, After-from_residual-in_err-place, After-put_sides}
 
 -- begin, by the mode's number
 
-begun : (c : After-begin-call) → let a = c.args in
-    (c.begin-call.result ≡ called (begin_of a.slot a.channels (mode_of a.mode) a.lent.now))
-    × (c.begin-call.new.lent ≡ (begin_of a.slot a.channels (mode_of a.mode) a.lent.now).lent)
-begun c =
+abbrev begun : After-begin-call → Outcome
+begun c = begin_of c.args.slot c.args.channels (mode_of c.args.mode) c.args.lent.now
+
+told : (c : After-begin-call) → (c.begin-call.result ≡ called (begun c)) × (c.begin-call.new.lent ≡ (begun c).lent)
+told c =
     let a = c.args in
-    let m = c.mode_of.ensures in (
+    let m = mode_gives a.mode _ c.in_ok-looping.ensures in (
       c.begin-call.ensures.value ∙ ap (λ (x : Looping). called (begin_of a.slot a.channels x a.lent.now)) m,
       c.begin-call.ensures.lent_after ∙ ap (λ (x : Looping). (begin_of a.slot a.channels x a.lent.now).lent) m,
     )
 
--- its numbers
+refused : (c : After-from_residual-in_err-place) → Err c.in_err-place.field-0.0 ≡ place_in (begin_of c.args.slot c.args.channels (mode_of c.args.mode) c.args.lent.now).reply
+refused c = c.in_err-place.ensures ∙ ap (λ (q : Called). place_in q.reply) (told (goal.at.returns-in_err-place-clause-kept_after c).After-begin-call).0
 
-answered : (c : After-call_of-answer) → let a = c.args in
-    c.call_of-answer.result ≡ call_of (begin_of a.slot a.channels (mode_of a.mode) a.lent.now)
-answered c =
+pub returns-in_err-place-clause-lent_after : goal.returns-in_err-place-clause-lent_after
+returns-in_err-place-clause-lent_after c =
+    let z = begin_err c.args.slot c.args.channels (mode_of c.args.mode) c.args.lent.now _ (refused c) in
+    (told (goal.at.returns-in_err-place-clause-kept_after c).After-begin-call).1 ∙ z.1 ∙ left_err _ _ _ _ c.from_residual-in_err-place.ensures.1 z.0
+
+pub returns-in_err-place-clause-kept_after : goal.returns-in_err-place-clause-kept_after
+returns-in_err-place-clause-kept_after c =
+    left_err _ _ _ _ c.from_residual-in_err-place.ensures.1 (begin_err c.args.slot c.args.channels (mode_of c.args.mode) c.args.lent.now _ (refused c)).0
+
+pub returns-in_err-place-clause-kept_after_2 : goal.returns-in_err-place-clause-kept_after_2
+returns-in_err-place-clause-kept_after_2 c =
+    left_err _ _ _ _ c.from_residual-in_err-place.ensures.1 (begin_err c.args.slot c.args.channels (mode_of c.args.mode) c.args.lent.now _ (refused c)).0
+
+put : (c : After-put_sides) → c.put_sides.new.kept ≡ bytes_begun c.args.kept.now (begin_of c.args.slot c.args.channels (mode_of c.args.mode) c.args.lent.now)
+put c =
     let a = c.args in
-    c.call_of-answer.ensures ∙ ap (λ (q : Called). call_in q.reply)
-    (c.begin-call.ensures.value ∙ ap (λ (x : Looping). called (begin_of a.slot a.channels x a.lent.now)) c.mode_of.ensures)
-
-pub returns-then-kept-lt-LOADER_SIZE : goal.returns-then-kept-lt-LOADER_SIZE
-returns-then-kept-lt-LOADER_SIZE c =
-    let a = c.args in
-    let e = c.refused.ensures in
-    rw (lt-ltb (length a.kept.now) loader_size c.if-kept-lt-LOADER_SIZE.true)
-    (record { value = e; lent_after = leaves _ _ _ 252 e refl; kept_after = leaves _ _ _ 252 e refl; kept_after_2 = leaves _ _ _ 252 e refl })
-
-pub returns-then-mode-gt2 : goal.returns-then-mode-gt2
-returns-then-mode-gt2 c =
-    let a = c.args in
-    let e = c.refused-then-mode-gt2.ensures in
-    rw (le-ltb (length a.kept.now) loader_size c.if-kept-lt-LOADER_SIZE.false, lt-ltb 2 a.mode c.if-mode-gt2.true)
-    (record { value = e; lent_after = leaves _ _ _ 253 e refl; kept_after = leaves _ _ _ 253 e refl; kept_after_2 = leaves _ _ _ 253 e refl })
-
-pub put_numbers-requires : goal.put_numbers-requires
-put_numbers-requires c = omega (arith, c.if-kept-lt-LOADER_SIZE.false)
-
-pub put_sides-requires : goal.put_sides-requires
-put_sides-requires c =
-    let e = c.put_numbers.ensures in
-    omega (
-      arith,
-      c.if-kept-lt-LOADER_SIZE.false,
-      ap length e,
-      put_at-length c.args.kept.now 0 (number_bytes c.fields_of-s.result),
-    )
-
-pub returns-then-answer-eq0 : goal.returns-then-answer-eq0
-returns-then-answer-eq0 c =
-    let a = c.args in
-    let told = begun (goal.at.returns-then-answer-eq0 c).After-begin-call in
-    let z = c.if-answer-eq0.true in
-    let is = answered (goal.at.returns-then-answer-eq0 c).After-call_of-answer in
-    let o = begin_of a.slot a.channels (mode_of a.mode) a.lent.now in
     let k = a.kept.now in
-    let room = c.if-kept-lt-LOADER_SIZE.false in
-    let due = sym (begin-number a.slot a.channels (mode_of a.mode) a.lent.now) ∙ ap (λ (q : KeptCall). q.number) (sym is) ∙ z in
-    let fields : c.fields_of-s.result ≡ fields_of o.writer = c.fields_of-s.ensures ∙ ap (λ (q : Called). fields_of q.writer) told.0 in
+    let m = mode_gives a.mode _ c.in_ok-looping.ensures in
+    let call = c.begin-call.ensures.value ∙ ap (λ (x : Looping). called (begin_of a.slot a.channels x a.lent.now)) m in
+    let fields : c.from-f.result ≡ fields_of (begin_of a.slot a.channels (mode_of a.mode) a.lent.now).writer = c.from-f.ensures ∙ ap (λ (q : Called). fields_of q.writer) call in
     let sixteen = begin-sixteen k a.slot a.channels (mode_of a.mode) a.lent.now in
-    let put = record_put k _ c.fields_of-s.result c.put_numbers.ensures (omega arith)
-    (ap (λ (m : Fields). length m.left.coefficients) fields ∙ sixteen.0)
-    (ap (λ (m : Fields). length m.right.coefficients) fields ∙ sixteen.1)
+    record_put k _ c.from-f.result c.put_numbers.ensures (omega (arith, c.if-kept-lt-LOADER_SIZE.false))
+    (ap (λ (m : Fields). length m.stream.left.coefficients) fields ∙ sixteen.0)
+    (ap (λ (m : Fields). length m.stream.right.coefficients) fields ∙ sixteen.1)
     c.put_sides.ensures
-    ∙ ap (λ (m : Fields). put_at k 0 (record_bytes m)) fields in
-    rw (le-ltb (length a.kept.now) loader_size room, le-ltb 2 a.mode c.if-mode-gt2.false) (record {
-      value = is;
-      lent_after = told.1 ∙ given_as _ _ _ z;
-      kept_after = put ∙ given_as _ _ _ z;
-      kept_after_2 = ap writer_in put ∙ begin-after k a.slot a.channels (mode_of a.mode) a.lent.now room c.ranges.channels.fits due
-          ∙ given_as _ _ _ z;
-    })
+    ∙ ap (λ (m : Fields). put_at k 0 (record_bytes m)) fields
 
-pub returns-else-answer-eq0 : goal.returns-else-answer-eq0
-returns-else-answer-eq0 c =
+pub returns-clause-kept_after : goal.returns-clause-kept_after
+returns-clause-kept_after c = put (goal.at.returns-clause-kept_after_2 c).After-put_sides
+
+pub returns-clause-kept_after_2 : goal.returns-clause-kept_after_2
+returns-clause-kept_after_2 c =
     let a = c.args in
-    let told = begun (goal.at.returns-else-answer-eq0 c).After-begin-call in
-    let h = c.if-answer-eq0.false in
-    let is = answered (goal.at.returns-else-answer-eq0 c).After-call_of-answer in
-    let n : (call_of (begin_of a.slot a.channels (mode_of a.mode) a.lent.now)).number ≡ 0 → ⊥ = λ z. h (ap (λ (q : KeptCall). q.number) is ∙ z) in
-    rw (le-ltb (length a.kept.now) loader_size c.if-kept-lt-LOADER_SIZE.false, le-ltb 2 a.mode c.if-mode-gt2.false) (record {
-      value = is;
-      lent_after = told.1 ∙ begin_lent a.slot a.channels (mode_of a.mode) a.lent.now n ∙ left_as _ _ _ h;
-      kept_after = left_as _ _ _ h;
-      kept_after_2 = left_as _ _ _ h;
-    })
+    let call = (told (goal.at.returns-clause-kept_after_2 c).After-begin-call).0 in
+    let due = begin_ok a.slot a.channels (mode_of a.mode) a.lent.now _ (c.in_ok-place.ensures ∙ ap (λ (q : Called). place_in q.reply) call) in
+    ap writer_in (put (goal.at.returns-clause-kept_after_2 c).After-put_sides) ∙ begin-after a.kept.now a.slot a.channels (mode_of a.mode) a.lent.now c.if-kept-lt-LOADER_SIZE.false c.ranges.channels.fits due

@@ -28,7 +28,7 @@ returns-then-inside c =
     let p3 = put_then {m = 32} p2 (flat_map be_z16 _) (coefficients_length _ ∙ omega arith) c.put_coefficients.ensures refl (omega arith) in
     let p4 = put_then p3 (be16 _) (be16-length _) c.put_u16-then-inside-2.ensures refl (omega arith) in
     let p5 = put_then p4 (context_bytes _) (context-length _) c.put_context.ensures refl (omega arith) in
-    p5.is ∙ ap (put_at _ _) (simp (append_assoc, c.from.ensures, looping_is, c.format_number.ensures))
+    p5.is ∙ ap (put_at _ _) (simp (append_assoc, c.from.ensures, looping_is, c.from-then-inside.ensures))
 
 pub returns-else-inside : goal.returns-else-inside
 returns-else-inside c = kept _ _ _ (channel-length _ (search rules)) (failed c.inside.ensures c.if-inside.false)

@@ -1,3 +1,4 @@
+use mathlib.Core.Path.{refl}
 use Rattle.script_run.proofs.BeginLaws.{loads_nothing, loads_all}
 use Rattle.script_run.proofs.loading.load_script.Goals as goal
 
@@ -6,7 +7,7 @@ returns-then-refused g c =
     let all = loads_nothing c.args.slot _ c.start_of-start.ensures
     c.line_at.ensures
     c.begin_line-line.ensures c.begun_length.ensures (c.begin_logged-m.ensures.value, (c.begin_logged-m.ensures.logged_after, c.begin_logged-m.ensures.good))
-    c.is_refused-refused.ensures c.if-refused.true c.nothing.ensures in
+    c.is_refused-refused.ensures c.if-refused.true refl in
     record {
       value = all.0;
       logged_after = all.1;

@@ -6,7 +6,7 @@ use cut_answer::{Ask, answer};
 use host_io::host::{arg, arg_count, fail, open_read};
 use host_io::{buffer, read_full, write_all};
 use key_print::slot_room;
-use script_words::numbers::{Number, unsigned};
+use script_words::numbers::unsigned;
 use std::env::Env;
 use std::io::Write;
 use std::rt::Files;
@@ -31,10 +31,10 @@ docs/CUT.md has the script's words.
 }
 
 // The argument MOMENT.
-fn moment<R: Env>(rt: &R) -> Number {
+fn moment<R: Env>(rt: &R) -> Option<u64> {
     let mut word = buffer();
     let n = arg(rt, 3, &mut word);
-    unsigned(&word[..n], 18446744073709551615)
+    unsigned(&word[..n], u64::MAX)
 }
 
 // The answer on EARLIER. A slot that is too long is seen to be longer by its last byte.
@@ -48,9 +48,7 @@ fn answer_script<R: Env + Files, W: Write, E: Write>(
     let mut name = buffer();
     let k = arg(rt, 1, &mut name);
     let mut slot = slot_room();
-    let earlier = read_file(rt, err, &name[..k], &mut slot);
-    let n = earlier.length;
-    if earlier.good {
+    if let Some(n) = read_file(rt, err, &name[..k], &mut slot) {
         answer(to, err, &slot[..n], text, ask);
     }
 }
@@ -87,9 +85,8 @@ fn main(rt: HostRuntime) {
         return;
     }
     if count == 4 {
-        let m = moment(&rt);
-        if m.good {
-            run(&rt, &mut out, &mut err, Ask::Moment(m.value));
+        if let Some(m) = moment(&rt) {
+            run(&rt, &mut out, &mut err, Ask::Moment(m));
             return;
         }
     }

@@ -1,7 +1,7 @@
 -- What is answered, case by case.
 use Prim.Native.Nat.{ℕ, ◌<◌, ◌≤◌}
 use mathlib.Core.Path.{◌≡◌, refl, ap, sym, ◌∙◌}
-use mathlib.Core.Bool.{true, false}
+use mathlib.Core.Bool.{false}
 use mathlib.Core.List.{List, [], ◌∷◌}
 use native.Mathlib.Omega.{arith}
 use lib.ListN.{length, take, drop, replicate, length-drop, length-replicate}
@@ -19,9 +19,9 @@ use Rattle.cut_write_log.specs.declared.WriteLog.{WriteLog}
 use Rattle.cut_logged_calls.specs.LoggedCalls.{lent_of, log_size}
 use Rattle.script_run.specs.Script.{begun_length, begin_line_in, begins, script_writes, script_limit}
 use Rattle.script_run.specs.Running.{begin_refused, load_log, loaded_by}
-use Rattle.script_run.specs.declared.loading.Loaded.{Loaded}
+use Rattle.std.specs.Prelude.{Some, None}
 use Rattle.script_run.proofs.BeginLaws.{begin-accepted, small_slot, own_length}
-use Rattle.script_run.proofs.LogLaws.{loaded_listed, loaded_refused, loaded_is}
+use Rattle.script_run.proofs.LogLaws.{loaded_none, loaded_accepted, loaded_listed, loaded_is}
 use Rattle.cut_answer.specs.Moments.{last_moment}
 use Rattle.cut_answer.specs.Answers.{moment_answer, asked_answer, formed_answer, answered}
 use Rattle.cut_answer.specs.declared.Ask.{Ask}
@@ -70,24 +70,20 @@ begun-small slot s f =
     omega arith
 
 -- There is room for all writes: the script is answered by what was loaded.
-module _ (slot : ℕ) (s : List ℕ) {room : List ℕ} {q : Loaded} {after : List ℕ} (zeros : room ≡ replicate log_size 0)
-    (made : (q ≡ loaded_by slot s room) × (after ≡ (load_log slot s room).bytes)) (few : length s ≤ script_limit) where
+module _ (slot : ℕ) (s : List ℕ) {room : List ℕ} (zeros : room ≡ replicate log_size 0) (few : length s ≤ script_limit) where
   enough : log_size ≤ length room
   enough = let n = ap length zeros ∙ length-replicate {A = ℕ} log_size 0 in omega arith
 
-  is_refused_lem : q.refused ≡ begin_refused slot s
-  is_refused_lem = loaded_refused slot s room made few enough
-
-  pub told_refused : (ask : Ask) → q.refused ≡ true → BeginRefused ≡ formed_answer slot s ask
+  pub told_refused : (ask : Ask) → None ≡ loaded_by slot s room → BeginRefused ≡ formed_answer slot s ask
   unfolding formed_answer
-  told_refused ask t = let b : begin_refused slot s ≡ true = sym is_refused_lem ∙ t in rw b
+  told_refused ask t = rw (loaded_none slot s room few enough t)
 
-  module _ (f : q.refused ≡ false) where
+  module _ {j : WriteLog} {after : List ℕ} (made : Some j ≡ loaded_by slot s room) (bytes : after ≡ (load_log slot s room).bytes) where
     accepted : begin_refused slot s ≡ false
-    accepted = sym is_refused_lem ∙ f
+    accepted = loaded_accepted slot s room few enough made bytes
 
-    pub all_logged : Logged.Listed q.log after × (logged_writes q.log after ≡ script_writes slot s)
-    all_logged = (loaded_listed slot s room made, loaded_is slot s room made few enough f)
+    pub all_logged : Logged.Listed j after × (logged_writes j after ≡ script_writes slot s)
+    all_logged = (loaded_listed slot s room few enough made bytes, loaded_is slot s room few enough made bytes)
 
     pub small : slot ≤ key_limit
     small = begun-small slot s accepted
@@ -103,11 +99,11 @@ module _ (e s : List ℕ) (ask : Ask) where
   unfolding answered
   long_script h = rw (lt-ltb script_limit (length s) h)
 
-  module _ (few : length s ≤ script_limit) {n : ℕ} (i : n ≡ wrong_line s) where
-    pub wrong_line_lem : 0 < n → WrongLine n ≡ answered e s ask
+  module _ (few : length s ≤ script_limit) where
+    pub wrong_line_lem : {n : ℕ} → n ≡ wrong_line s → 0 < n → WrongLine n ≡ answered e s ask
     unfolding answered
-    wrong_line_lem h = rw (← i, le-ltb script_limit (length s) few, ne_eqb n 0 (λ z. omega arith))
+    wrong_line_lem {n} i h = rw (← i, le-ltb script_limit (length s) few, ne_eqb n 0 (λ z. omega arith))
 
-    pub well_formed : {r : Answered} → n ≡ 0 → r ≡ formed_answer (length e) s ask → r ≡ answered e s ask
+    pub well_formed : {r : Answered} → 0 ≡ wrong_line s → r ≡ formed_answer (length e) s ask → r ≡ answered e s ask
     unfolding answered
-    well_formed z q = let t : wrong_line s ≡ 0 = sym i ∙ z in q ∙ rw (le-ltb script_limit (length s) few, t)
+    well_formed i q = q ∙ rw (le-ltb script_limit (length s) few, ← i)

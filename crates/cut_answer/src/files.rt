@@ -1,5 +1,5 @@
 // Files by name.
-ghost use Rattle.std.specs.Prelude.{◌≡◌, replicate};
+ghost use Rattle.std.specs.Prelude.{◌≡◌, replicate, IfSome};
 ghost use Rattle.std.specs.Counts.{IsPrefixLen};
 
 use host_io::host::{fail, open_read};
@@ -14,28 +14,21 @@ pub fn script_room() -> [u8; 1048577]
     [0; 1048577]
 }
 
-// Whether the file could be opened, and how many bytes of it stand in the lent buffer.
-#[derive(Clone, Copy)]
-pub struct Got {
-    pub good: bool,
-    pub length: usize,
-}
-
-// As much of a file as a lent buffer holds. What goes wrong is said on standard error, `err`.
-pub fn read_file<R: Files, E: Write>(files: &R, err: &mut E, path: &[u8], into: &mut [u8]) -> Got
-    ensures { IsPrefixLen result.length into.new }
+// As much of a file as a lent buffer holds: how many bytes of it stand there then, or none where the file can't be opened. What goes wrong is said on standard
+// error, `err`.
+pub fn read_file<R: Files, E: Write>(
+    files: &R,
+    err: &mut E,
+    path: &[u8],
+    into: &mut [u8],
+) -> Option<usize>
+    ensures { IfSome result (λ n. IsPrefixLen n into.new) }
 {
     match open_read(files, path) {
-        Ok(mut file) => {
-            let length = read_full(&mut file, into);
-            Got { good: true, length }
-        }
+        Ok(mut file) => Some(read_full(&mut file, into)),
         Err(error) => {
             fail(err, path, error);
-            Got {
-                good: false,
-                length: 0,
-            }
+            None
         }
     }
 }

@@ -89,13 +89,6 @@ fn show_moment<W: Write, E: Write>(
     Answered::Listed
 }
 
-fn is_all(ask: Ask) -> bool {
-    match ask {
-        Ask::All => true,
-        Ask::Moment(_) => false,
-    }
-}
-
 // What is asked, of a slot that is a copy of the earlier one.
 fn show<W: Write, E: Write>(
     to: &mut W,
@@ -133,14 +126,12 @@ fn answer_script<W: Write, E: Write>(
 {
     let n = earlier.len();
     let mut logged = log_room();
-    let verbose = is_all(ask);
-    let loaded = load(Output { to, verbose }, text, n, &mut logged);
-    if loaded.refused {
+    let verbose = matches!(ask, Ask::All);
+    let Some(j) = load(Output { to, verbose }, text, n, &mut logged) else {
         return Answered::BeginRefused;
-    }
+    };
     let mut slot = slot_room();
     put_bytes(&mut slot, 0, earlier);
-    let j = loaded.log;
     show(to, err, earlier, text, &mut slot[..n], j, &logged, ask)
 }
 
@@ -158,8 +149,7 @@ pub fn answer<W: Write, E: Write>(
         write_all(err, b"cut: SCRIPT is longer than 1,048,576 bytes\n");
         return Answered::LongScript;
     }
-    let wrong = wrong_line(text);
-    if wrong != 0 {
+    if let Some(wrong) = wrong_line(text) {
         print_line(to, script_line(wrong));
         return Answered::WrongLine(wrong);
     }

@@ -38,12 +38,10 @@ fn run_end(slot: &mut [u8], first: &[u8], j: WriteLog, logged: &[u8], from: usiz
     let places = j.places;
     let count = j.count;
     let total = j.total;
-    let mut m = from;
-    while m < total {
+    for m in from..total {
         next_moment(slot, places, count, logged, m);
-        m += 1;
         if !same_listing(first, slot) {
-            return m;
+            return m + 1;
         }
     }
     total + 1

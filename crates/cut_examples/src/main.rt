@@ -15,12 +15,10 @@ fn same_files<R: Files, E: Write>(files: &R, err: &mut E, one: &[u8], two: &[u8]
     let mut there = large_buffer();
     let a = read_file(files, err, one, &mut here);
     let b = read_file(files, err, two, &mut there);
-    let n = a.length;
-    let m = b.length;
-    if a.good & b.good {
-        return here[..n] == there[..m];
+    match (a, b) {
+        (Some(n), Some(m)) => here[..n] == there[..m],
+        _ => false,
     }
-    false
 }
 
 fn write_answer<R: Files, E: Write>(
@@ -46,10 +44,8 @@ fn run<R: Files, W: Write, E: Write>(
 ) {
     let mut earlier = slot_room();
     let mut text = large_buffer();
-    let one = read_file(files, err, slot, &mut earlier);
-    let two = read_file(files, err, script, &mut text);
-    let n = one.length;
-    let m = two.length;
+    let n = read_file(files, err, slot, &mut earlier).unwrap_or(0);
+    let m = read_file(files, err, script, &mut text).unwrap_or(0);
     write_answer(files, err, &earlier[..n], &text[..m], ask);
     write_all(to, listing);
     if same_files(files, err, b"answer", listing) {

@@ -16,16 +16,17 @@ use Rattle.reader.specs.OpeningAndReading.{Opened, opening, Readable}
 use Rattle.reader.specs.declared.HpsReader.{HpsReader}
 use Rattle.adpcm_block.specs.Block.{Decoded, filled_with}
 use Rattle.adpcm_block.proofs.CountLaws.{samples_most}
-use Rattle.reader_decode.specs.Decoding.{DecodeAnswer, decoder_at, new_decoder, decoding, reply_of, decoder_after, samples_after, decode_call, heard_in, decoder_on, heard}
+use Rattle.reader_decode.specs.Decoding.{DecodeAnswer, decoder_at, new_decoder, decoding, decode_answer, decoder_after, samples_after, heard_in, decoder_on, heard}
 use Rattle.reader_decode.specs.declared.Decoder.{Decoder}
-use Rattle.reader_decode.specs.declared.DecodeReply.{DecodeReply}
-use Rattle.reader_decode.specs.declared.DecodeCall.{DecodeCall}
 use Rattle.reader_decode.proofs.ReadLaws.{Longer, DecodingSays, decoding_says, decoding-room}
 use Rattle.decode_print.specs.declared.Hearing.{Hearing}
-use Rattle.std.specs.Prelude.{Ok}
-use Rattle.decode_print.specs.Hearing.{most_samples, heard_from, end_from, samples_on, channel_samples, end_on, channel_end, RoomForEach, HeardOf, Before, is_samples, is_short, HeardHere}
+use Rattle.std.specs.Prelude.{Some, Result, Ok, Err}
+use Rattle.layout.specs.Records.{Read}
+use Rattle.layout.specs.Answers.{number_of}
+use Rattle.layout.specs.declared.refusal.Refusal.{Refusal}
+use Rattle.decode_print.specs.Hearing.{most_samples, heard_from, end_from, samples_on, channel_samples, end_on, channel_end, RoomForEach, HeardOf, Before, ended_says, is_samples, is_short, HeardHere}
 
--- ---- The reply of a call
+-- ---- The answer of a call
 
 -- samples that were given
 pub record SamplesGiven (a : DecodeAnswer) (n : ℕ) : Type 0 where
@@ -34,17 +35,22 @@ pub record SamplesGiven (a : DecodeAnswer) (n : ℕ) : Type 0 where
   pub is : a ≡ DecodeAnswer.gave decoded position
   pub count : n ≡ length decoded.samples
 
-pub samples_given : (a : DecodeAnswer) {n : ℕ} → reply_of a ≡ DecodeReply.Samples n → SamplesGiven a n
-samples_given (DecodeAnswer.refused k) e = absurd (let z : ◌≡◌ {A = ℕ} 0 1 = cc in omega arith)
-samples_given DecodeAnswer.ended e = absurd (let z : ◌≡◌ {A = ℕ} 0 1 = cc in omega arith)
+pub samples_given : (a : DecodeAnswer) {n : ℕ} → Read.value (Some n) ≡ decode_answer a → SamplesGiven a n
+samples_given (DecodeAnswer.refused k) e = absurd (cc)
+samples_given DecodeAnswer.ended e = absurd (cc)
 samples_given (DecodeAnswer.gave d j) {n} e = record { decoded = d; position = j; is = refl; count = let h : n ≡ length d.samples = cc in h }
 
-quiet_none : (a : DecodeAnswer) → is_samples (reply_of a) ≡ false → heard_in a ≡ []
+-- an end is no answer with samples
+quiet_end : (e : Result (Unit {0}) Refusal) → is_samples (ended_says e) ≡ false
+quiet_end (Ok u) = refl
+quiet_end (Err r) = refl
+
+quiet_none : (a : DecodeAnswer) → is_samples (decode_answer a) ≡ false → heard_in a ≡ []
 quiet_none (DecodeAnswer.refused k) e = refl
 quiet_none DecodeAnswer.ended e = refl
 quiet_none (DecodeAnswer.gave d j) e = apart e
 
-quiet_stays : (a : DecodeAnswer) (d : Decoder) → is_samples (reply_of a) ≡ false → decoder_after d a ≡ d
+quiet_stays : (a : DecodeAnswer) (d : Decoder) → is_samples (decode_answer a) ≡ false → decoder_after d a ≡ d
 quiet_stays (DecodeAnswer.refused k) d e = refl
 quiet_stays DecodeAnswer.ended d e = refl
 quiet_stays (DecodeAnswer.gave x j) d e = apart e
@@ -53,7 +59,7 @@ quiet_stays (DecodeAnswer.gave x j) d e = apart e
 
 module _ (s : List ℕ) (r : HpsReader) (ch places : ℕ) where
   -- after a call that gives no samples there are no more
-  module _ (d : Decoder) (q : is_samples (reply_of (decoding s r ch d.position places)) ≡ false) where
+  module _ (d : Decoder) (q : is_samples (decode_answer (decoding s r ch d.position places)) ≡ false) where
     none-heard : (n : ℕ) → heard n s r ch d places ≡ []
     unfolding heard
     none-heard zero = refl
@@ -95,16 +101,16 @@ module _ (s : List ℕ) (r : HpsReader) (ch : ℕ) where
     pub end_next : end_from s r ch d ≡ end_from s r ch (decoder_at j x.context)
     unfolding end_from decoder_on
     end_next =
-        ap (λ (y : Decoder). reply_of (decoding s r ch y.position most_samples))
+        ap (λ (y : Decoder). decode_answer (decoding s r ch y.position most_samples))
         (ap (λ (n : ℕ). decoder_on n s r ch d most_samples) calls-left ∙ ap (λ (a : DecodeAnswer). decoder_on (r.blocks - j) s r ch (decoder_after d a) most_samples) e)
 
   -- after one that gave none
-  module _ (d : Decoder) (q : is_samples (reply_of (decoding s r ch d.position most_samples)) ≡ false) where
+  module _ (d : Decoder) (q : is_samples (decode_answer (decoding s r ch d.position most_samples)) ≡ false) where
     pub heard-none : heard_from s r ch d ≡ []
     unfolding heard_from
     heard-none = none-heard s r ch most_samples d q (r.blocks - d.position)
 
-    pub end_here : end_from s r ch d ≡ reply_of (decoding s r ch d.position most_samples)
+    pub end_here : end_from s r ch d ≡ decode_answer (decoding s r ch d.position most_samples)
     unfolding end_from
     end_here = rw (stays-there s r ch most_samples d q (r.blocks - d.position)) refl
 
@@ -146,11 +152,11 @@ module _ {s : List ℕ} {r : HpsReader} {ch : ℕ} {d : Decoder} {from : ℕ} (b
     }
 
   -- a call that gave none with places for every block: all is printed
-  module _ (q : is_samples (reply_of (decoding s r ch d.position most_samples)) ≡ false) where
+  module _ (q : is_samples (decode_answer (decoding s r ch d.position most_samples)) ≡ false) where
     pub all_printed : from ≡ length (channel_samples s ch)
     all_printed = omega (arith, b.inside, simp length-drop at (ap length (b.left ∙ heard-none s r ch d q)))
 
-    pub ends_so : channel_end s ch ≡ reply_of (decoding s r ch d.position most_samples)
+    pub ends_so : channel_end s ch ≡ decode_answer (decoding s r ch d.position most_samples)
     ends_so = b.ends ∙ end_here s r ch d q
 
 -- ---- One call
@@ -162,12 +168,12 @@ after-length lent DecodeAnswer.ended h = refl
 after-length lent (DecodeAnswer.gave x j) h = length-append x.samples (drop (length x.samples) lent) ∙ simp length-drop (omega (arith, h))
 
 -- a call from the decoder d on, whose reply is that it filled n places
-pub record Step (s : List ℕ) (r : HpsReader) (ch : ℕ) (d : Decoder) (from : ℕ) (q : DecodeCall) (after : List ℤ) (n : ℕ) : Type 0 where
+pub record Step (s : List ℕ) (r : HpsReader) (ch : ℕ) (d : Decoder) (from : ℕ) (next : Decoder) (after : List ℤ) (n : ℕ) : Type 0 where
   pub fits : n ≤ length after
   pub samples : take n after ≡ take n (drop from (channel_samples s ch))
   pub inside : from + n ≤ length (channel_samples s ch)
-  pub next : Before s r ch q.decoder (from + n)
-  pub less : r.blocks - q.decoder.position < r.blocks - d.position
+  pub before : Before s r ch next (from + n)
+  pub less : r.blocks - next.position < r.blocks - d.position
 
 module _ (s : List ℕ) (r : HpsReader) (ch : ℕ) (d : Decoder) (lent : List ℤ) where
   abbrev answer : DecodeAnswer
@@ -177,7 +183,7 @@ module _ (s : List ℕ) (r : HpsReader) (ch : ℕ) (d : Decoder) (lent : List �
   same_places v = ap length v ∙ after-length lent answer (few-heard s r ch (length lent) answer d.position (decoding_says s r d.position (length lent) ch))
 
   step_given : {from : ℕ} → Before s r ch d from → length lent ≤ most_samples → {x : Decoded} {j : ℕ} → answer ≡ DecodeAnswer.gave x j → {n : ℕ} → n ≡ length x.samples
-      → {q : DecodeCall} → q.decoder ≡ decoder_at j x.context → {after : List ℤ} → after ≡ samples_after lent answer → Step s r ch d from q after n
+      → {next : Decoder} → next ≡ decoder_at j x.context → {after : List ℤ} → after ≡ samples_after lent answer → Step s r ch d from next after n
   step_given b l {x} {j} is {n} count on {after} v =
       let says = rw is at (decoding_says s r d.position (length lent) ch) in
       let put : after ≡ filled_with x.samples lent = v ∙ ap (samples_after lent) is in
@@ -186,19 +192,17 @@ module _ (s : List ℕ) (r : HpsReader) (ch : ℕ) (d : Decoder) (lent : List �
         fits = omega (arith, long, count, says.few);
         samples = rw (put, count) (take_at x.samples _ (length x.samples) refl ∙ samples_next b l is);
         inside = rw count (inside-next b l is);
-        next = rw (on, count) (before-next b l is);
+        before = rw (on, count) (before-next b l is);
         less = rw on (omega (arith, says.there, says.moved));
       }
 
-  pub step : {from : ℕ} → Before s r ch d from → length lent ≤ most_samples → {q : DecodeCall} → q ≡ decode_call d answer
-      → {after : List ℤ} → after ≡ samples_after lent answer → {n : ℕ} → q.reply ≡ DecodeReply.Samples n → Step s r ch d from q after n
-  step b l {q} e v f =
-      let g = samples_given answer (sym (ap (λ (x : DecodeCall). x.reply) e) ∙ f) in
-      step_given b l g.is g.count (ap (λ (y : DecodeCall). y.decoder) e ∙ ap (decoder_after d) g.is) v
+  pub step : {from : ℕ} → Before s r ch d from → length lent ≤ most_samples → {n : ℕ} → Read.value (Some n) ≡ decode_answer answer
+      → {next : Decoder} → next ≡ decoder_after d answer → {after : List ℤ} → after ≡ samples_after lent answer → Step s r ch d from next after n
+  step b l f e v = let g = samples_given answer f in step_given b l g.is g.count (e ∙ ap (decoder_after d) g.is) v
 
 -- ---- The end
 
-not_short : (a : DecodeAnswer) → is_short (reply_of a) ≡ false → a ≡ DecodeAnswer.refused 14 → ⊥
+not_short : (a : DecodeAnswer) → is_short (decode_answer a) ≡ false → a ≡ DecodeAnswer.refused 14 → ⊥
 not_short a h e = let k = rw e at h in apart k
 
 -- printed up to a call that gave none: that is all, where that call is the same with places for every block
@@ -206,8 +210,8 @@ module _ {s : List ℕ} {r : HpsReader} {ch places : ℕ} {h : Hearing} (t : Hea
   all-heard : decoding s r ch h.decoder.position places ≡ decoding s r ch h.decoder.position most_samples
       → HeardOf (channel_samples s ch) (channel_end s ch) (Ok h.heard)
   all-heard here =
-      let same : h.heard.reply ≡ reply_of (decoding s r ch h.decoder.position most_samples) = t.reply ∙ ap reply_of here in
-      let quiet = rw same at t.quiet in
+      let same : ended_says h.heard.end ≡ decode_answer (decoding s r ch h.decoder.position most_samples) = t.end ∙ ap decode_answer here in
+      let quiet = rw same at (quiet_end h.heard.end) in
       (all_printed t.before quiet, same ∙ sym (ends_so t.before quiet))
 
   -- with places for every block
@@ -215,16 +219,16 @@ module _ {s : List ℕ} {r : HpsReader} {ch places : ℕ} {h : Hearing} (t : Hea
   heard-long e = all-heard (ap (decoding s r ch h.decoder.position) e)
 
   -- where more places would not do
-  pub heard_short : places ≤ most_samples → is_short h.heard.reply ≡ false → HeardOf (channel_samples s ch) (channel_end s ch) (Ok h.heard)
+  pub heard_short : places ≤ most_samples → is_short (ended_says h.heard.end) ≡ false → HeardOf (channel_samples s ch) (channel_end s ch) (Ok h.heard)
   heard_short l f =
-      all-heard (decoding-room l s r ch h.decoder.position (λ e. absurd (not_short _ (rw t.reply at f) e)) (λ e. e))
+      all-heard (decoding-room l s r ch h.decoder.position (λ e. absurd (not_short _ (rw t.end at f) e)) (λ e. e))
 
 -- ---- A slot that does not open
 
-pub none_of : (s : List ℕ) (ch n : ℕ) → opening s ≡ Opened.refused n
-    → HeardOf (channel_samples s ch) (channel_end s ch) (Ok (record { reply = DecodeReply.Refused n; length = 0 }))
+pub none_of : (s : List ℕ) (ch : ℕ) (e : Refusal) → Opened.refused (number_of e) ≡ opening s
+    → HeardOf (channel_samples s ch) (channel_end s ch) (Ok (record { end = Err e; length = 0 }))
 unfolding channel_samples channel_end
-none_of s ch n e = rw e (refl, refl)
+none_of s ch e o = rw (← o) (refl, refl)
 
 -- ---- Room
 

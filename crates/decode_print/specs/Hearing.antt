@@ -1,12 +1,13 @@
 -- Hearing a channel (document 02, Card 1): the samples of a slot's channel and how they end, and what is printed of them.
-use Rattle.std.specs.Prelude.{ℕ, ◌-◌, ◌*◌, ◌/◌, ◌≤◌, ◌≡◌, Bool, true, false, List, [], length, drop, eqb, ℤ, Result, Ok, Err}
+use Rattle.std.specs.Prelude.{ℕ, ◌-◌, ◌*◌, ◌/◌, ◌≤◌, ◌≡◌, Bool, true, false, List, [], length, drop, eqb, ℤ, Option, Some, None, Result, Ok, Err}
+use Rattle.layout.specs.Records.{Read}
+use Rattle.layout.specs.Answers.{number_of}
+use Rattle.layout.specs.declared.refusal.Refusal.{Refusal}
 use Rattle.layout.specs.Refusals.{block_limit, slot_limit, length_limit}
 use Rattle.reader.specs.OpeningAndReading.{Opened, opening}
 use Rattle.reader.specs.declared.HpsReader.{HpsReader}
-use Rattle.reader_decode.specs.Decoding.{DecodeAnswer, decoding, new_decoder, reply_of, decoder_on, heard}
+use Rattle.reader_decode.specs.Decoding.{DecodeAnswer, decoding, new_decoder, decode_answer, decoder_on, heard}
 use Rattle.reader_decode.specs.declared.Decoder.{Decoder}
-use Rattle.reader_decode.specs.declared.DecodeReply.{DecodeReply}
-use Rattle.reader_decode.specs.declared.DecodeReply.TheVariants.{Refused, End, Samples}
 use Rattle.decode_print.specs.declared.Heard.{Heard}
 use Rattle.decode_print.specs.declared.NotTaken.{NotTaken}
 use Rattle.decode_print.specs.declared.Hearing.{Hearing}
@@ -27,9 +28,9 @@ pushed_samples = whole_frames length_limit
 unfoldable pub heard_from : List ℕ → HpsReader → (channel : ℕ) → Decoder → List ℤ
 heard_from s r ch d = heard (r.blocks - d.position) s r ch d most_samples
 
--- The reply of the call after them.
-unfoldable pub end_from : List ℕ → HpsReader → (channel : ℕ) → Decoder → DecodeReply
-end_from s r ch d = reply_of (decoding s r ch (decoder_on (r.blocks - d.position) s r ch d most_samples).position most_samples)
+-- The answer of the call after them.
+unfoldable pub end_from : List ℕ → HpsReader → (channel : ℕ) → Decoder → Read (Option ℕ)
+end_from s r ch d = decode_answer (decoding s r ch (decoder_on (r.blocks - d.position) s r ch d most_samples).position most_samples)
 
 -- "The course room wants to listen to one channel.": its samples, block after block, up to the end or to a refusal; none where the slot does not open
 abbrev pub samples_on : List ℕ → (channel : ℕ) → Opened → List ℤ
@@ -40,11 +41,11 @@ unfoldable pub channel_samples : List ℕ → (channel : ℕ) → List ℤ
 channel_samples s ch = samples_on s ch (opening s)
 
 -- How they end: by the end or a refusal; the opening's where the slot does not open
-abbrev pub end_on : List ℕ → (channel : ℕ) → Opened → DecodeReply
-end_on s ch (Opened.refused n) = Refused n
+abbrev pub end_on : List ℕ → (channel : ℕ) → Opened → Read (Option ℕ)
+end_on s ch (Opened.refused n) = Read.refused n
 end_on s ch (Opened.opened r) = end_from s r ch new_decoder
 
-unfoldable pub channel_end : List ℕ → (channel : ℕ) → DecodeReply
+unfoldable pub channel_end : List ℕ → (channel : ℕ) → Read (Option ℕ)
 channel_end s ch = end_on s ch (opening s)
 
 -- `most_samples` are places enough for every block of a slot that opens.
@@ -53,9 +54,14 @@ RoomForEach = (s : List ℕ) (r : HpsReader) → opening s ≡ Opened.opened r �
 
 -- ---- What is printed
 
--- Where the system took all, those were all samples, and the reply is how they end; else no more than these were handed to it.
-abbrev pub HeardOf : (samples : List ℤ) (end : DecodeReply) → Result Heard NotTaken → Type 0
-HeardOf xs end (Ok h) = (h.length ≡ length xs) × (h.reply ≡ end)
+-- What an end says, as a call's answer: the end, or a refusal's number.
+abbrev pub ended_says : Result (Unit {0}) Refusal → Read (Option ℕ)
+ended_says (Ok u) = Read.value None
+ended_says (Err r) = Read.refused (number_of r)
+
+-- Where the system took all, those were all samples, and so they end; else no more than these were handed to it.
+abbrev pub HeardOf : (samples : List ℤ) (end : Read (Option ℕ)) → Result Heard NotTaken → Type 0
+HeardOf xs end (Ok h) = (h.length ≡ length xs) × (ended_says h.end ≡ end)
 HeardOf xs end (Err e) = e.length ≤ length xs
 
 -- On the way: so many samples of the channel stand before this decoder, and what comes from it on are the others and how they end.
@@ -65,23 +71,21 @@ pub record Before (s : List ℕ) (r : HpsReader) (channel : ℕ) (d : Decoder) (
   pub ends : channel_end s channel ≡ end_from s r channel d
   pub few : length (channel_samples s channel) ≤ block_limit * most_samples
 
--- Whether it is the reply of a call that gave samples.
-abbrev pub is_samples : DecodeReply → Bool
-is_samples (Refused n) = false
-is_samples End = false
-is_samples (Samples n) = true
+-- Whether it is the answer of a call that gave samples.
+abbrev pub is_samples : Read (Option ℕ) → Bool
+is_samples (Read.refused n) = false
+is_samples (Read.value None) = false
+is_samples (Read.value (Some n)) = true
 
 -- Whether more places would do.
-abbrev pub is_short : DecodeReply → Bool
-is_short (Refused n) = eqb n 14
-is_short End = false
-is_short (Samples n) = false
+abbrev pub is_short : Read (Option ℕ) → Bool
+is_short (Read.refused n) = eqb n 14
+is_short (Read.value a) = false
 
 -- Printed up to a call that gave no samples, with so many places lent.
 pub record HeardHere (s : List ℕ) (r : HpsReader) (channel places : ℕ) (h : Hearing) : Type 0 where
   pub before : Before s r channel h.decoder h.heard.length
-  pub reply : h.heard.reply ≡ reply_of (decoding s r channel h.decoder.position places)
-  pub quiet : is_samples h.heard.reply ≡ false
+  pub end : ended_says h.heard.end ≡ decode_answer (decoding s r channel h.decoder.position places)
 
 -- The same, or up to samples that the system did not take.
 abbrev pub HeardTo : List ℕ → HpsReader → (channel places : ℕ) → Result Hearing NotTaken → Type 0

@@ -5,21 +5,21 @@ ghost use Rattle.std.specs.Prelude.{◌≡◌, ◌≤◌, ◌+◌, ◌*◌, leng
 ghost use Rattle.layout.specs.Refusals.{block_limit};
 ghost use Rattle.pcm_bytes.specs.Pcm.{pcm_bytes};
 ghost use Rattle.reader.specs.OpeningAndReading.{Readable};
-ghost use Rattle.decode_print.specs.Hearing.{most_samples, pushed_samples, channel_samples, channel_end, RoomForEach, HeardOf, Before, HeardTo, is_short};
+ghost use Rattle.decode_print.specs.Hearing.{most_samples, pushed_samples, channel_samples, channel_end, RoomForEach, HeardOf, Before, HeardTo, ended_says, is_short};
 
 use host_io::{large_buffer, write_all};
 use layout::limits::{LENGTH_LIMIT, SLOT_LIMIT};
+use layout::refusal::Refusal;
 use pcm_bytes::put_pcm;
 use reader::HpsReader;
-use reader::answers::OpenReply;
-use reader_decode::{DecodeReply, Decoder, decode, new_decoder};
+use reader_decode::{Decoder, decode, new_decoder};
 use reader_open::open;
 use std::io::Write;
 
-// How many samples a channel has, all of them handed to the system, and the reply that ended them.
+// How many samples a channel has, all of them handed to the system, and whether a refusal ended them.
 #[derive(Clone, Copy)]
 pub struct Heard {
-    pub reply: DecodeReply,
+    pub end: Result<(), Refusal>,
     pub length: usize,
 }
 
@@ -68,6 +68,13 @@ fn print_samples<W: Write>(
     Ok(at)
 }
 
+fn ended(end: Result<(), Refusal>, length: usize, decoder: Decoder) -> Hearing
+    ensures { result ≡ record { heard = record { end = end; length = length }; decoder = decoder } }
+{
+    let heard = Heard { end, length };
+    Hearing { heard, decoder }
+}
+
 // The blocks from a decoder on, up to a call that gives no samples.
 fn print_blocks<W: Write>(
     to: &mut W,
@@ -85,10 +92,10 @@ fn print_blocks<W: Write>(
     let mut length = from;
     loop {
         let call = decode(s, r, channel, decoder, samples);
-        let reply = call.reply;
-        let DecodeReply::Samples(n) = reply else {
-            let heard = Heard { reply, length };
-            return Ok(Hearing { heard, decoder });
+        let n = match call.answer {
+            Ok(Some(n)) => n,
+            Ok(None) => return Ok(ended(Ok(()), length, decoder)),
+            Err(refusal) => return Ok(ended(Err(refusal), length, decoder)),
         };
         let taken = print_samples(to, s, channel, length, &samples[..n])?;
         length += taken;
@@ -96,10 +103,11 @@ fn print_blocks<W: Write>(
     }
 }
 
-fn is_short(reply: DecodeReply) -> bool
-    ensures { result ≡ is_short reply }
+// Whether more places would do.
+fn is_short(end: Result<(), Refusal>) -> bool
+    ensures { result ≡ is_short (ended_says end) }
 {
-    matches!(reply, DecodeReply::Refused(14))
+    matches!(end, Err(Refusal::LentTooShort))
 }
 
 // Room for the samples of a block that was pushed.
@@ -153,7 +161,7 @@ fn print_rest<W: Write>(
     let mut samples = pushed_room();
     let h = print_blocks(to, s, r, channel, first, from, &mut samples)?;
     let heard = h.heard;
-    if is_short(heard.reply) {
+    if is_short(heard.end) {
         return print_rest(to, s, r, channel, h.decoder, heard.length, true);
     }
     Ok(heard)
@@ -163,18 +171,12 @@ fn print_rest<W: Write>(
 pub fn print_channel<W: Write>(to: &mut W, s: &[u8], channel: usize) -> Result<Heard, NotTaken>
     ensures { HeardOf (channel_samples s.now channel) (channel_end s.now channel) result }
 {
-    let opened = open(s);
-    let r = opened.reader;
-    let answer = opened.reply;
-    match answer {
-        OpenReply::Refused(n) => {
-            let reply = DecodeReply::Refused(n);
-            Ok(Heard { reply, length: 0 })
-        }
-        OpenReply::Opened => {
-            let first = new_decoder();
-            print_rest(to, s, r, channel, first, 0, false)
-        }
+    match open(s) {
+        Ok(r) => print_rest(to, s, r, channel, new_decoder(), 0, false),
+        Err(refusal) => Ok(Heard {
+            end: Err(refusal),
+            length: 0,
+        }),
     }
 }
 

@@ -46,10 +46,8 @@ pub fn curve_text() -> [u8; TEXT_SIZE]
 {
     let mut text = room();
     let mut at: usize = 0;
-    let mut k: usize = 0;
-    while k < LEVELS {
+    for k in 0..LEVELS {
         at += put_entry(&mut text, at, k);
-        k += 1;
     }
     text
 }

@@ -143,8 +143,8 @@ fn same_lines(a: &[u8], r: HpsReader, here: Stage, b: &[u8], q: HpsReader, there
 fn same_stop(here: Stage, there: Stage) -> bool
     ensures { result ≡ true → (s t : List ℕ) (r q : HpsReader) → listing_from s r here ≡ listing_from t q there }
 {
-    if let (Stage::Stop(number), Stage::Stop(other)) = (here, there) {
-        number == other
+    if let (Stage::Stop(why), Stage::Stop(other)) = (here, there) {
+        why == other
     } else {
         false
     }

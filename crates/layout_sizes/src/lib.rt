@@ -9,35 +9,29 @@ ghost use Rattle.layout.specs.Sizes.{saturated};
 use layout::DspFormat;
 use layout::limits::{ALIGNMENT, MONO_LIMIT, STEREO_LIMIT};
 
-const MOST_PADDING: usize = ALIGNMENT - 1;
-
 // The alignment of data in an HPS file: P(n), or usize::MAX where that is larger.
+#[tactic(auto, unfolding(layout::specs::Records::padded_size, layout::specs::Sizes::saturated))]
 pub fn align(n: usize) -> usize
     ensures { result ≡ saturated (padded_size n) }
 {
-    if n <= usize::MAX - MOST_PADDING {
-        (n + MOST_PADDING) / ALIGNMENT * ALIGNMENT
-    } else {
-        usize::MAX
-    }
+    n.checked_next_multiple_of(ALIGNMENT).unwrap_or(usize::MAX)
 }
 
-// (n + 1) / 2, where n + 1 may not fit.
+// Half of n, rounded up.
+#[tactic(auto, unfolding(layout::specs::Records::adpcm_bytes))]
 pub fn adpcm_bytes(n: usize) -> usize
     ensures { result ≡ adpcm_bytes n }
 {
-    n / 2 + n % 2
+    n.div_ceil(2)
 }
 
 // An ADPCM address as a sample index: the two leading half bytes of each frame are no samples.
+#[tactic(auto, unfolding(layout::specs::Records::adpcm_samples))]
 pub fn adpcm_samples(n: usize) -> usize
     ensures { result ≡ adpcm_samples n }
 {
-    let mut address = n;
-    if n % 16 < 2 {
-        // Push the address past a frame boundary
-        address = n - n % 16 + 2;
-    }
+    // Push the address past a frame boundary
+    let address = if n % 16 < 2 { n - n % 16 + 2 } else { n };
     let num_frames = address / 16 + 1;
     address - num_frames * 2
 }

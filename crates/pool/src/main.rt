@@ -10,7 +10,7 @@ use frame_pool_lines::says::LINE_LIMIT;
 use frame_pool_lines::{Progress, answer_lines, new_progress};
 use host_io::host::{arg_count, fail};
 use host_io::remembering::Remembering;
-use host_io::{buffer, large_buffer, write_all};
+use host_io::{LARGE, PATH, write_all, zeros};
 use script_words::text::whole_lines;
 use std::io::{Read, Write};
 
@@ -40,13 +40,10 @@ struct Turn {
 fn stopped(progress: Progress) -> Turn
     ensures { result.held < 4096 }
 {
-    let pool = progress.pool;
-    let number = progress.number;
     Turn {
         progress: Progress {
-            pool,
-            number,
             ended: true,
+            ..progress
         },
         held: 0,
     }
@@ -70,7 +67,7 @@ fn answer<W: Write, E: Write>(
     requires { (length text.now ≤ 4096) × (held < 4096) }
     ensures { result.held < 4096 }
 {
-    let mut out = large_buffer();
+    let mut out = zeros::<LARGE>();
     let answered = answer_lines(from, text, &mut out);
     let n = answered.length;
     let progress = answered.progress;
@@ -86,11 +83,7 @@ fn hold(room: &mut [u8], from: usize, n: usize)
     requires { (from ≤ n) × (n ≤ length room.old) }
     ensures { room.new ≡ paste room.old 0 (drop from room.old) (n - from) }
 {
-    let mut i: usize = 0;
-    while i < n - from {
-        room[i] = room[from + i];
-        i += 1;
-    }
+    room.copy_within(from..n, 0);
 }
 
 // How many of the bytes in the room are answered: its whole lines; or all of them, where it is full and they are less than a line.
@@ -99,10 +92,8 @@ fn answerable(bytes: &[u8]) -> usize
     ensures { (result ≤ length bytes.now) × (length bytes.now - result < 4096) }
 {
     let n = whole_lines(bytes);
-    if n == 0 {
-        if bytes.len() == ROOM {
-            return ROOM;
-        }
+    if n == 0 && bytes.len() == ROOM {
+        return ROOM;
     }
     n
 }
@@ -143,8 +134,7 @@ fn answer_some<R: Read, W: Write, E: Write>(
         }
         Ok(0) => {
             let last = answer(to, err, from, &room[..held], 0);
-            let progress = last.progress;
-            stopped(progress)
+            stopped(last.progress)
         }
         Ok(k) => answer_read(to, err, from, room, held + k),
     }
@@ -152,18 +142,16 @@ fn answer_some<R: Read, W: Write, E: Write>(
 
 // Portion after portion. That it ends is proved by the count of what may still come: more portions than any input has.
 fn answer_all<R: Read, W: Write, E: Write>(input: &mut R, to: &mut Remembering<W>, err: &mut E) {
-    let mut room = buffer();
+    let mut room = zeros::<PATH>();
     let mut progress = new_progress();
     let mut held: usize = 0;
-    let mut portions = u64::MAX;
-    while portions > 0 {
+    for _ in 0..u64::MAX {
         if progress.ended {
             return;
         }
         let turn = answer_some(input, to, err, progress, &mut room, held);
         progress = turn.progress;
         held = turn.held;
-        portions -= 1;
     }
 }
 

@@ -3,6 +3,7 @@
 
 ghost use Rattle.std.specs.Prelude.{◌≡◌, ◌+◌, ◌-◌, ◌*◌, ◌≤◌, ◌<◌, length};
 ghost use Rattle.std.proofs.Math.Seq.{slice};
+ghost use Rattle.std.specs.List.{list_any};
 ghost use Rattle.layout.specs.Records.{padded_size, cue_bytes, cue_point_size};
 ghost use Rattle.layout.specs.Puts.{put_at};
 ghost use Rattle.writer.specs.Loading.{loops, any_loop};
@@ -11,7 +12,6 @@ ghost use Rattle.writer_assign_cues.specs.Taking.{tallied, cue_point, point_byte
 ghost use Rattle.layout.specs.Refusals.{cue_limit};
 
 use layout::fields::inside;
-use layout::least;
 use layout::limits::{CUE_LIMIT, CUE_POINT_SIZE};
 use layout_put::put_u32;
 use layout_put_block::put_fillers;
@@ -29,11 +29,7 @@ pub struct Taken {
 fn loops(kind: CueKind) -> bool
     ensures { result ≡ loops kind }
 {
-    match kind {
-        CueKind::Point => false,
-        CueKind::Loop => true,
-        CueKind::Range(_) => false,
-    }
+    matches!(kind, CueKind::Loop)
 }
 
 // Where the cues from a place on that start below a limit end.
@@ -88,7 +84,7 @@ fn take_within(cues: [Cue; CUE_LIMIT], from: usize, count: usize, end: u64, last
 pub fn take(cues: [Cue; CUE_LIMIT], from: usize, count: usize, end: u64, last: bool) -> Taken
     ensures { result ≡ tallied (from + count_taken cues from count end last) (cues_taken cues from count end last) }
 {
-    let most = least(count, CUE_LIMIT);
+    let most = count.min(CUE_LIMIT);
     if from < most {
         return take_within(cues, from, most, end, last);
     }
@@ -99,28 +95,18 @@ pub fn take(cues: [Cue; CUE_LIMIT], from: usize, count: usize, end: u64, last: b
     }
 }
 
-fn has_loop(cues: [Cue; CUE_LIMIT], count: usize) -> bool
-    requires { count ≤ cue_limit }
-    ensures { result ≡ any_loop (slice 0 count cues) }
+fn has_loop(cues: &[Cue]) -> bool
+    ensures { result ≡ list_any (λ c. loops c.kind) cues.now }
 {
-    let mut k: usize = 0;
-    while k < count {
-        let cue = cues[k];
-        let kind = cue.kind;
-        if loops(kind) {
-            return true;
-        }
-        k += 1;
-    }
-    false
+    cues.iter().any(|c| loops(c.kind))
 }
 
 // Whether the table has a Loop.
 pub fn any_loop(cues: [Cue; CUE_LIMIT], count: usize) -> bool
     ensures { result ≡ any_loop (slice 0 count cues) }
 {
-    let most = least(count, CUE_LIMIT);
-    has_loop(cues, most)
+    let most = count.min(CUE_LIMIT);
+    has_loop(&cues[..most])
 }
 
 // The distance from b to a, or 0.
@@ -201,7 +187,7 @@ pub fn put_taken(
 )
     ensures { buf.new ≡ put_at buf.old at (filled_bytes base id (slice from to cues)) }
 {
-    let most = least(to, CUE_LIMIT);
+    let most = to.min(CUE_LIMIT);
     if from < most {
         let taken = tally(cues, from, most);
         let size = align(CUE_POINT_SIZE * taken.points);

@@ -34,8 +34,7 @@ use Rattle.writer_push_refusal.proofs.GroupLaws.{state_numbered}
 use Rattle.writer_assign_cues.specs.declared.Taken.{Taken}
 use Rattle.writer_assign_cues.specs.Taking.{tallied, filled_bytes, Taking}
 use Rattle.writer_assign_cues.proofs.TakeLaws.{taken_slice, taken_count, taken_within, taken_few, taking}
-use Rattle.writer_push_plan.specs.declared.Plan.{Plan}
-use Rattle.writer_push_plan.specs.PushPlan.{plan_due, header_in, no_plan, made_plan, plan_of}
+use Rattle.writer_push_plan.specs.PushPlan.{Planned, plan_due, header_in, no_plan, made_plan, plan_of}
 use Rattle.writer_push_plan.proofs.PlanLaws.{Passing, passing}
 use Rattle.writer_push.proofs.DataLaws.{block-put}
 
@@ -120,7 +119,7 @@ module _ (w : HpsWriter) (g : Good w) (end : ℕ) (last : Bool) (t : Taken)
 -- ---- What a push does, by its plan
 
 -- the sample that the block ends before, the cues that it takes, whether the table has a Loop as far as that counts, and the plan
-pub record Worked (w : HpsWriter) (ch : ℕ) (l r : ChannelBlock) (ld rd : List ℕ) (last : Bool) (lent : List ℕ) (end : ℕ) (t : Taken) (held : Bool) (plan : Plan) : Type 0 where
+pub record Worked (w : HpsWriter) (ch : ℕ) (l r : ChannelBlock) (ld rd : List ℕ) (last : Bool) (lent : List ℕ) (end : ℕ) (t : Taken) (held : Bool) (plan : Planned) : Type 0 where
   pub good : Good w
   pub ends : end ≡ saturated (w.stream.base + adpcm_samples l.length)
   pub takes : t ≡ tallied (w.stream.next + count_taken w.table.cues w.stream.next w.table.count end last) (cues_taken w.table.cues w.stream.next w.table.count end last)
@@ -128,7 +127,7 @@ pub record Worked (w : HpsWriter) (ch : ℕ) (l r : ChannelBlock) (ld rd : List 
       ≡ loop_from w.stream.loopat w.stream.offset (loops_here w.setup.mode (any_loop (slice 0 w.table.count w.table.cues)) t.asked end last)
   pub plans : plan ≡ plan_of w.setup w.stream t held end ch l r (length ld) (length rd) last (length lent)
 
-module _ {w : HpsWriter} {ch : ℕ} {l r : ChannelBlock} {ld rd : List ℕ} {last : Bool} {lent : List ℕ} {end : ℕ} {t : Taken} {held : Bool} {plan : Plan}
+module _ {w : HpsWriter} {ch : ℕ} {l r : ChannelBlock} {ld rd : List ℕ} {last : Bool} {lent : List ℕ} {end : ℕ} {t : Taken} {held : Bool} {plan : Planned}
     (k : Worked w ch l r ld rd last lent end t held plan) where
   abbrev args : Push
   args = push_args ch l r ld rd last
@@ -139,7 +138,7 @@ module _ {w : HpsWriter} {ch : ℕ} {l r : ChannelBlock} {ld rd : List ℕ} {las
   plan_due_lem : plan.due ≡ number
   unfolding plan_of made_plan
   plan_due_lem =
-      ap (λ (p : Plan). p.due) k.plans
+      ap (λ (p : Planned). p.due) k.plans
       ∙ by_cases (empty_push args) (λ e. rw e) (λ e. rw e (by_cases (eqb number 0) (λ q. rw q (sym (eqb-true _ 0 q))) (λ q. rw q)))
 
   -- a length that is not refused
@@ -183,7 +182,7 @@ module _ {w : HpsWriter} {ch : ℕ} {l r : ChannelBlock} {ld rd : List ℕ} {las
   unfolding plan_of
   some_block h =
       by_cases (empty_push args)
-      (λ e. let is : plan ≡ no_plan number w.stream = k.plans ∙ rw e in absurd (h (ap (λ (p : Plan). p.size) is)))
+      (λ e. let is : plan ≡ no_plan number w.stream = k.plans ∙ rw e in absurd (h (ap (λ (p : Planned). p.size) is)))
       (λ e. e)
 
   module _ (z : plan.due ≡ 0) (some : empty_push args ≡ false) where
@@ -196,11 +195,11 @@ module _ {w : HpsWriter} {ch : ℕ} {l r : ChannelBlock} {ld rd : List ℕ} {las
 
     pub starts : plan.start ≡ data_after t.points
     unfolding made_plan
-    starts = ap (λ (p : Plan). p.start) made
+    starts = ap (λ (p : Planned). p.start) made
 
     pub totals : plan.size ≡ size_with t.points ch (length ld) (length rd)
     unfolding made_plan
-    totals = ap (λ (p : Plan). p.size) made
+    totals = ap (λ (p : Planned). p.size) made
 
     pub sized : plan.size ≡ block_size (taken_of w args) args
     sized = totals ∙ ap (λ (m : ℕ). size_with m ch (length ld) (length rd)) (counted passes.short)
@@ -219,14 +218,14 @@ module _ {w : HpsWriter} {ch : ℕ} {l r : ChannelBlock} {ld rd : List ℕ} {las
     header_is : plan.header ≡ header_in t.points ch l r (length ld) (length rd) (next_for w args)
     unfolding made_plan next_for
     header_is =
-        ap (λ (p : Plan). p.header) made
+        ap (λ (p : Planned). p.header) made
         ∙ ap (λ (n : ℕ). header_in t.points ch l r (length ld) (length rd) n)
         (rw (loop-is, sym totals, end_is))
 
     pub advances : plan.after ≡ advanced w.stream t.to t.points end (data_after t.points + data_size ch (length ld) (length rd))
         (loop_from w.stream.loopat w.stream.offset (loops_here w.setup.mode held t.asked end last)) l r last
     unfolding made_plan
-    advances = ap (λ (p : Plan). p.after) made
+    advances = ap (λ (p : Planned). p.after) made
 
     pub after_is : with_stream w plan.after ≡ after_block w args
     unfolding after_block

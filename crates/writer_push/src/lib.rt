@@ -35,16 +35,6 @@ pub fn put_data(buf: &mut [u8], at: usize, channels: usize, left: &[u8], right: 
     }
 }
 
-// A refused call hands out no write and leaves the record.
-fn refused(w: HpsWriter, due: u32) -> Called
-    ensures { result ≡ record { reply = Reply.Refused due; writer = w } }
-{
-    Called {
-        reply: Reply::Refused(due),
-        writer: w,
-    }
-}
-
 // Push: the block is to go to the record's offset. In mono the right side counts for nothing. An empty push has no block: it hands out no write.
 pub fn push(
     w: HpsWriter,
@@ -61,17 +51,14 @@ pub fn push(
     ensures lent_after { lent.new ≡ (push_of w (push_args channels left right left_data.now right_data.now last) lent.old).lent }
     ensures good { Good result.writer }
 {
-    let setup = w.setup;
     let s = w.stream;
     let cues = w.table.cues;
     let count = w.table.count;
     let end = block_end(s.base, left.length);
     let taken = take(cues, s.next, count, end, last);
     let held = any_loop(cues, count);
-    let left_bytes = left_data.len();
-    let right_bytes = right_data.len();
-    let plan = plan_push(
-        setup,
+    let answer = plan_push(
+        w.setup,
         s,
         taken,
         held,
@@ -79,20 +66,27 @@ pub fn push(
         channels,
         left,
         right,
-        left_bytes,
-        right_bytes,
+        left_data.len(),
+        right_data.len(),
         last,
         lent.len(),
     );
-    if plan.due != 0 {
-        return refused(w, plan.due);
-    }
-    if plan.size == 0 {
-        let reply = Reply::NoWrite;
-        return Called { reply, writer: w };
-    }
-    let header = plan.header;
-    put_header(lent, 0, header);
+    let plan = match answer {
+        Ok(Some(plan)) => plan,
+        Ok(None) => {
+            return Called {
+                reply: Reply::NoWrite,
+                writer: w,
+            };
+        }
+        Err(refusal) => {
+            return Called {
+                reply: Reply::Refused(refusal.into()),
+                writer: w,
+            };
+        }
+    };
+    put_header(lent, 0, plan.header);
     put_taken(
         lent,
         BLOCK_HEADER_SIZE,
@@ -103,12 +97,14 @@ pub fn push(
         s.id,
     );
     put_data(lent, plan.start, channels, left_data, right_data);
-    let stream = plan.after;
     Called {
         reply: Reply::OneWrite(Place {
             offset: s.offset,
             length: plan.size,
         }),
-        writer: HpsWriter { stream, ..w },
+        writer: HpsWriter {
+            stream: plan.after,
+            ..w
+        },
     }
 }

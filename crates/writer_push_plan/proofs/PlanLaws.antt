@@ -26,10 +26,9 @@ use Rattle.writer.specs.Loading.{data_size, second_context, push_order, state_du
 use Rattle.writer_push_refusal.proofs.DecideLaws.{group_yes, group_no}
 use Rattle.writer_push_refusal.proofs.GroupLaws.{state_numbered, early_numbered}
 use Rattle.writer_assign_cues.specs.declared.Taken.{Taken}
-use Rattle.writer_push_plan.specs.PushPlan.{plan_due, header_in, no_plan, made_plan, plan_of}
+use Rattle.writer_push_plan.specs.PushPlan.{Planned, plan_due, header_in, no_plan, made_plan, plan_of}
 use Rattle.writer.specs.declared.Setup.{Setup}
 use Rattle.writer.specs.declared.Stream.{Stream}
-use Rattle.writer_push_plan.specs.declared.Plan.{Plan}
 
 -- ---- The sample that a block ends before
 
@@ -176,20 +175,20 @@ module _ (u : Setup) (s : Stream) (t : Taken) (held : Bool) (end ch : ℕ) (l r 
   refused_plan n is h =
       by_cases empty (λ q. rw (q, ← is)) (λ q. rw (q, ne_eqb (plan_due u s t.points ch l r lb rb last lent) 0 (λ z. h (is ∙ z)), ← is))
 
-  pub plan_state : (n : ℕ) → n ≡ first_due (state_due s.last u.channels ch) → (n ≡ 0 → ⊥) → (p : Plan) → p ≡ no_plan n s → p ≡ plan_of u s t held end ch l r lb rb last lent
+  pub plan_state : (n : ℕ) → n ≡ first_due (state_due s.last u.channels ch) → (n ≡ 0 → ⊥) → (p : Planned) → p ≡ no_plan n s → p ≡ plan_of u s t held end ch l r lb rb last lent
   unfolding plan_due push_order
   plan_state n is h p e = e ∙ refused_plan n (group_yes n _ _ is h) h
 
   -- what the groups after 29 give
   module _ (v : ℕ) (state : v ≡ first_due (state_due s.last u.channels ch)) (clear : v ≡ 0) where
-    pub plan_empty : empty ≡ true → (p : Plan) → p ≡ no_plan 0 s → p ≡ plan_of u s t held end ch l r lb rb last lent
+    pub plan_empty : empty ≡ true → (p : Planned) → p ≡ no_plan 0 s → p ≡ plan_of u s t held end ch l r lb rb last lent
     unfolding plan_of plan_due push_order first_due
     plan_empty q p e =
         e ∙ ap (λ (n : ℕ). no_plan n s) (group_no v 0 _ [] (state_numbered _ _ _) state clear refl) ∙ rw q
 
     -- the same by what the code has of it
     module _ (x : Bool) (asked : x ≡ empty) where
-      pub plan_asked : x ≡ true → (p : Plan) → p ≡ no_plan 0 s → p ≡ plan_of u s t held end ch l r lb rb last lent
+      pub plan_asked : x ≡ true → (p : Planned) → p ≡ no_plan 0 s → p ≡ plan_of u s t held end ch l r lb rb last lent
       plan_asked h = plan_empty (sym asked ∙ h)
 
     module _ (some : empty ≡ false) where
@@ -199,11 +198,11 @@ module _ (u : Setup) (s : Stream) (t : Taken) (held : Bool) (end ch : ℕ) (l r 
       rest n is = group_no v n _ _ (state_numbered _ _ _) state clear (rw some is)
 
       module _ (n : ℕ) (is : n ≡ first_due (early_due s.blocks s.left s.right ch l r lb rb)) where
-        pub plan_early : (n ≡ 0 → ⊥) → (p : Plan) → p ≡ no_plan n s → p ≡ plan_of u s t held end ch l r lb rb last lent
+        pub plan_early : (n ≡ 0 → ⊥) → (p : Planned) → p ≡ no_plan n s → p ≡ plan_of u s t held end ch l r lb rb last lent
         plan_early h p e = e ∙ refused_plan n (rest n (group_yes n _ _ is h)) h
 
         -- more points and ranges than the slot has bytes
-        pub plan_many : n ≡ 0 → u.slot < 8 * t.points → (p : Plan) → p ≡ no_plan 24 s → p ≡ plan_of u s t held end ch l r lb rb last lent
+        pub plan_many : n ≡ 0 → u.slot < 8 * t.points → (p : Planned) → p ≡ no_plan 24 s → p ≡ plan_of u s t held end ch l r lb rb last lent
         unfolding room_due first_due
         plan_many none h p e =
             let over : u.slot < s.offset + (data_after t.points + data_size ch lb rb) = omega (arith, padded_size_above (8 * t.points)) in
@@ -213,7 +212,7 @@ module _ (u : Setup) (s : Stream) (t : Taken) (held : Bool) (end ch : ℕ) (l r 
           room-is : m ≡ plan_due u s t.points ch l r lb rb last lent
           room-is = rest m (group_no n m _ _ (early_numbered _ _ _ _ _ _ _ _) is none (room ∙ ap (λ (k : ℕ). first_due (room_due u.slot s.offset k lent)) sized))
 
-          pub plan_room : (m ≡ 0 → ⊥) → (p : Plan) → p ≡ no_plan m s → p ≡ plan_of u s t held end ch l r lb rb last lent
+          pub plan_room : (m ≡ 0 → ⊥) → (p : Planned) → p ≡ no_plan m s → p ≡ plan_of u s t held end ch l r lb rb last lent
           plan_room h p e = e ∙ refused_plan m room-is h
 
           module _ (fits : m ≡ 0) (here : Bool) (loops : here ≡ loops_here u.mode held t.asked end last)
@@ -234,5 +233,5 @@ module _ (u : Setup) (s : Stream) (t : Taken) (held : Bool) (end ch : ℕ) (l r 
                 rw (some, eq-eqb (plan_due u s t.points ch l r lb rb last lent) 0 (sym room-is ∙ fits), ed, es, en, eo, ea, looped, loops, sized)
 
     module _ (x : Bool) (asked : x ≡ empty) (n : ℕ) (is : n ≡ first_due (early_due s.blocks s.left s.right ch l r lb rb)) where
-      pub plan_early_asked : x ≡ false → (n ≡ 0 → ⊥) → (p : Plan) → p ≡ no_plan n s → p ≡ plan_of u s t held end ch l r lb rb last lent
+      pub plan_early_asked : x ≡ false → (n ≡ 0 → ⊥) → (p : Planned) → p ≡ no_plan n s → p ≡ plan_of u s t held end ch l r lb rb last lent
       plan_early_asked h = plan_early (sym asked ∙ h) n is

@@ -1,28 +1,27 @@
-// What a push is to do, worked out of numbers alone (document 01, "Loading"): the first number due, the block's header and size, and the stream after it.
+// What a push is to do, worked out of numbers alone (document 01, "Loading"): why it is refused, or the block's header and size, and the stream after it.
 #![tactic(auto)]
 
-ghost use Rattle.std.specs.Prelude.{◌≡◌, ℕ, ◌+◌, ◌*◌, ◌<◌, ◌≤◌, ◌^◌, eqb};
+ghost use Rattle.std.specs.Prelude.{◌≡◌, ℕ, ◌+◌, ◌*◌, ◌<◌, ◌≤◌, ◌^◌, eqb, IfOk, IfSome};
 ghost use Rattle.layout.specs.Sizes.{saturated};
 ghost use Rattle.layout.specs.Records.{adpcm_samples, data_after};
 ghost use Rattle.writer.specs.Loading.{data_size, second_context};
 ghost use Rattle.writer.specs.Calls.{record_of, Good};
 ghost use Rattle.writer.specs.Push.{loops_here, loop_from, next_offset, advanced};
-ghost use Rattle.writer_push_plan.specs.PushPlan.{no_plan, plan_of};
+ghost use Rattle.writer_push_plan.specs.PushPlan.{plan_says, plan_of};
 ghost use Rattle.layout.specs.Refusals.{slot_limit, mono_limit, block_limit};
 ghost use Rattle.layout.specs.Choice.{pick};
 
 use layout::limits::{BLOCK_HEADER_SIZE, CUE_POINT_SIZE, END_BLOCK_OFFSET, SLOT_LIMIT};
+use layout::refusal::Refusal;
 use layout::{BlockHeader, FrameContext};
 use layout_sizes::{adpcm_samples, align};
 use writer::{ChannelBlock, LoopAt, Looping, Setup, Stream};
 use writer_assign_cues::Taken;
 use writer_push_refusal::{early_due, no_addresses, room_due, state_due};
 
-// The number due, 0 where none is; then the block's header, where its data starts, its size, and the stream after it. The size is 0 where there is no
-// block to write: of a refused push and of an empty one.
+// The block's header, where its data starts, its size, and the stream after it.
 #[derive(Clone, Copy)]
 pub struct Plan {
-    pub due: u32,
     pub header: BlockHeader,
     pub start: usize,
     pub size: usize,
@@ -126,31 +125,6 @@ fn next_offset(last: bool, loopat: LoopAt, end: usize) -> u32
     }
 }
 
-// No block to write: the stream stays.
-fn no_plan(due: u32, s: Stream) -> Plan
-    ensures { result ≡ no_plan due s }
-{
-    let context = FrameContext {
-        predictor_and_scale: 0,
-        last: 0,
-        oldest: 0,
-    };
-    Plan {
-        due,
-        header: BlockHeader {
-            size: 0,
-            end_address: 0,
-            next_offset: 0,
-            left: context,
-            right: context,
-            cues: 0,
-        },
-        start: 0,
-        size: 0,
-        after: s,
-    }
-}
-
 // The first block's side.
 fn first_side(blocks: usize, kept: ChannelBlock, side: ChannelBlock) -> ChannelBlock
     ensures { result ≡ pick (eqb blocks 0) side kept }
@@ -172,10 +146,8 @@ fn advance(
     requires { (s.id + taken.points < 2 ^ 32) × (s.blocks < block_limit) × (taken.points ≤ slot_limit) × (s.offset + size < 2 ^ 64) × (s.sum + left.length < 2 ^ 64) }
     ensures { result ≡ advanced s taken.to taken.points end size loopat left right last }
 {
-    let first = s.left;
-    let second = s.right;
-    let l = first_side(s.blocks, first, left);
-    let r = first_side(s.blocks, second, right);
+    let l = first_side(s.blocks, s.left, left);
+    let r = first_side(s.blocks, s.right, right);
     Stream {
         next: taken.to,
         id: s.id + taken.points as u32,
@@ -190,7 +162,8 @@ fn advance(
     }
 }
 
-// The plan of a push of so many bytes: the block takes these cues, ends before this sample and goes by a lent buffer of this length.
+// The plan of a push of so many bytes: the block takes these cues, ends before this sample and goes by a lent buffer of this length. An empty push has
+// no plan.
 pub fn plan_push(
     setup: Setup,
     s: Stream,
@@ -204,11 +177,12 @@ pub fn plan_push(
     right_bytes: usize,
     last: bool,
     lent: usize,
-) -> Plan
+) -> Result<Option<Plan>, Refusal>
     requires { Good (record_of setup s) }
-    ensures { result ≡ plan_of setup s taken held end channels left right left_bytes right_bytes last lent }
+    ensures planned { plan_says s result ≡ plan_of setup s taken held end channels left right left_bytes right_bytes last lent }
+    ensures some_bytes { IfOk result (λ plan. IfSome plan (λ p. 0 < p.size)) }
 {
-    let state = state_due(s.last, setup.channels, channels);
+    state_due(s.last, setup.channels, channels)?;
     let empty = no_addresses(
         channels,
         left.length,
@@ -217,61 +191,47 @@ pub fn plan_push(
         right_bytes,
         last,
     );
-    let first = s.left;
-    let second = s.right;
-    let early = early_due(
+    if empty {
+        return Ok(None);
+    }
+    early_due(
         s.blocks,
-        first,
-        second,
+        s.left,
+        s.right,
         channels,
         left,
         right,
         left_bytes,
         right_bytes,
-    );
-    if state != 0 {
-        return no_plan(state, s);
-    }
-    if empty {
-        return no_plan(0, s);
-    }
-    if early != 0 {
-        return no_plan(early, s);
-    }
+    )?;
     // More points and ranges than a slot has bytes.
     if taken.points > SLOT_LIMIT {
-        return no_plan(24, s);
+        return Err(Refusal::PastSlotEnd);
     }
     let data = data_size(channels, left_bytes, right_bytes);
     let start = data_start(taken.points);
     let size = start + data;
-    let room = room_due(setup.slot, s.offset, size, lent);
-    if room != 0 {
-        return no_plan(room, s);
-    }
-    let mode = setup.mode;
-    let former = s.loopat;
-    let due = loop_due(mode, held, taken.asked, end, last);
-    let loopat = loop_after(former, s.offset, due);
+    room_due(setup.slot, s.offset, size, lent)?;
+    let due = loop_due(setup.mode, held, taken.asked, end, last);
+    let loopat = loop_after(s.loopat, s.offset, due);
     let next = next_offset(last, loopat, s.offset + size);
-    let context = left.context;
     let other = second_context(channels, right);
     let padded = data as u32;
     let last_address = left.length - 1;
     let end_address = last_address as u32;
     let after = advance(s, taken, end, size, loopat, left, right, last);
-    Plan {
-        due: 0,
-        header: BlockHeader {
-            size: padded,
-            end_address,
-            next_offset: next,
-            left: context,
-            right: other,
-            cues: taken.points,
-        },
+    let header = BlockHeader {
+        size: padded,
+        end_address,
+        next_offset: next,
+        left: left.context,
+        right: other,
+        cues: taken.points,
+    };
+    Ok(Some(Plan {
+        header,
         start,
         size,
         after,
-    }
+    }))
 }

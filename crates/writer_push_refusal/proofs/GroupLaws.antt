@@ -1,9 +1,9 @@
--- Each group of push's refusals has its numbers: for `search grouped`.
+-- Each group of push's refusals has its numbers.
 use Prim.Native.Nat.{ℕ}
 use mathlib.Core.Bool.{Bool}
 use Rattle.writer.specs.declared.ChannelBlock.{ChannelBlock}
 use Rattle.writer.specs.Loading.{state_due, blocks_due, rate_due, length_due, data_due, coefficients_due, early_due}
-use Rattle.writer_push_refusal.proofs.DecideLaws.{Numbered, none, more, group_yes, group_no}
+use Rattle.writer_push_refusal.proofs.DecideLaws.{Numbered, none, more}
 
 pub state_numbered : (last : Bool) (own ch : ℕ) → Numbered (state_due last own ch)
 unfolding state_due
@@ -28,5 +28,3 @@ data_numbered ch l lb r rb = more none
 pub early_numbered : (n : ℕ) (f g : ChannelBlock) (ch : ℕ) (l r : ChannelBlock) (lb rb : ℕ) → Numbered (early_due n f g ch l r lb rb)
 unfolding early_due blocks_due rate_due length_due data_due coefficients_due
 early_numbered n f g ch l r lb rb = more (more (more (more (more (more (more (more (more none))))))))
-
-pub ruleset grouped = (group_yes, group_no, blocks_numbered, rate_numbered, length_numbered, data_numbered)

@@ -1,4 +1,3 @@
 pub mod DecideLaws
 pub mod GroupLaws
-pub mod EmptyLaws
 pub mod CoefficientLaws

@@ -1,41 +1,39 @@
-// Push's refusals (document 01, "Loading") in the groups of its order: each gives its first number due, 0 where none is.
+// Push's refusals (document 01, "Loading") in the groups of its order: each gives the first that is due.
 #![tactic(auto)]
 
 ghost use Rattle.std.specs.Prelude.{◌≡◌};
+ghost use Rattle.layout.specs.Answers.{due_number};
 ghost use Rattle.layout.specs.Refusals.{first_due};
 ghost use Rattle.writer.specs.Loading.{differ, changed, state_due, zero_in_each, no_addresses, blocks_due, rate_due, length_due, same_z, data_due, coefficients_due, early_due, room_due};
 
 use layout::limits::BLOCK_LIMIT;
+use layout::refusal::Refusal;
 use layout_sizes::{adpcm_bytes, size_limit};
 use writer::ChannelBlock;
 
 // 26, 29
-pub fn state_due(last: bool, own: usize, channels: usize) -> u32
-    ensures { result ≡ first_due (state_due last own channels) }
+#[tactic(auto, unfolding(writer::specs::Loading::state_due, layout::specs::Refusals::first_due))]
+pub fn state_due(last: bool, own: usize, channels: usize) -> Result<(), Refusal>
+    ensures { due_number result ≡ first_due (state_due last own channels) }
 {
     if last {
-        return 26;
+        return Err(Refusal::AfterLast);
     }
     if channels != own {
-        return 29;
+        return Err(Refusal::OtherChannelCount);
     }
-    0
+    Ok(())
 }
 
 // 0 in every channel: in mono the second number is not looked at.
 fn zero_in_each(channels: usize, left: usize, right: usize) -> bool
     ensures { result ≡ zero_in_each channels left right }
 {
-    if left != 0 {
-        return false;
-    }
-    if channels != 2 {
-        return true;
-    }
-    right == 0
+    left == 0 && (channels != 2 || right == 0)
 }
 
 // A push of length 0 in every channel, with no data and without the last mark: nothing is to be done.
+#[tactic(auto, unfolding(writer::specs::Loading::no_addresses))]
 pub fn no_addresses(
     channels: usize,
     left: usize,
@@ -46,116 +44,103 @@ pub fn no_addresses(
 ) -> bool
     ensures { result ≡ no_addresses channels left right left_bytes right_bytes mark }
 {
-    if mark {
-        return false;
-    }
-    if zero_in_each(channels, left, right) {
-        return zero_in_each(channels, left_bytes, right_bytes);
-    }
-    false
+    !mark && zero_in_each(channels, left, right) && zero_in_each(channels, left_bytes, right_bytes)
 }
 
 // 25
-fn blocks_due(blocks: usize) -> u32
-    ensures { result ≡ first_due (blocks_due blocks) }
+#[tactic(auto, unfolding(writer::specs::Loading::blocks_due, layout::specs::Refusals::first_due))]
+fn blocks_due(blocks: usize) -> Result<(), Refusal>
+    ensures { due_number result ≡ first_due (blocks_due blocks) }
 {
     if blocks >= BLOCK_LIMIT {
-        return 25;
+        return Err(Refusal::NoMoreBlocks);
     }
-    0
+    Ok(())
 }
 
 // Two channels, and their numbers differ.
 fn differ(channels: usize, left: usize, right: usize) -> bool
     ensures { result ≡ differ channels left right }
 {
-    if channels != 2 {
-        return false;
-    }
-    left != right
+    channels == 2 && left != right
 }
 
 // A later block, and its number is not the first one's.
 fn changed(blocks: usize, first: u32, given: u32) -> bool
     ensures { result ≡ changed blocks first given }
 {
-    if blocks > 0 {
-        return given != first;
-    }
-    false
+    blocks > 0 && given != first
 }
 
 // 15, 22, 9
-fn rate_due(blocks: usize, first: u32, channels: usize, left: u32, right: u32) -> u32
-    ensures { result ≡ first_due (rate_due blocks first channels left right) }
+#[tactic(auto, unfolding(writer::specs::Loading::rate_due, layout::specs::Refusals::first_due))]
+fn rate_due(
+    blocks: usize,
+    first: u32,
+    channels: usize,
+    left: u32,
+    right: u32,
+) -> Result<(), Refusal>
+    ensures { due_number result ≡ first_due (rate_due blocks first channels left right) }
 {
     if differ(channels, left as usize, right as usize) {
-        return 15;
+        return Err(Refusal::RatesDiffer);
     }
     if changed(blocks, first, left) {
-        return 22;
+        return Err(Refusal::RateChanged);
     }
     if left == 0 {
-        return 9;
+        return Err(Refusal::RateZero);
     }
-    0
+    Ok(())
 }
 
 // 12, 10, 13
-fn length_due(channels: usize, left: usize, right: usize) -> u32
-    ensures { result ≡ first_due (length_due channels left right) }
+#[tactic(auto, unfolding(writer::specs::Loading::length_due, layout::specs::Refusals::first_due))]
+fn length_due(channels: usize, left: usize, right: usize) -> Result<(), Refusal>
+    ensures { due_number result ≡ first_due (length_due channels left right) }
 {
     if differ(channels, left, right) {
-        return 12;
+        return Err(Refusal::LengthsDiffer);
     }
     if left < 2 {
-        return 10;
+        return Err(Refusal::TooShort);
     }
     if size_limit(channels) < adpcm_bytes(left) {
-        return 13;
+        return Err(Refusal::TooLarge);
     }
-    0
+    Ok(())
 }
 
 // 11
+#[tactic(auto, unfolding(writer::specs::Loading::data_due, layout::specs::Refusals::first_due))]
 fn data_due(
     channels: usize,
     left: usize,
     left_bytes: usize,
     right: usize,
     right_bytes: usize,
-) -> u32
-    ensures { result ≡ first_due (data_due channels left left_bytes right right_bytes) }
+) -> Result<(), Refusal>
+    ensures { due_number result ≡ first_due (data_due channels left left_bytes right right_bytes) }
 {
     if left_bytes != adpcm_bytes(left) {
-        return 11;
+        return Err(Refusal::WrongDataLength);
     }
-    if channels != 2 {
-        return 0;
+    if channels == 2 && right_bytes != adpcm_bytes(right) {
+        return Err(Refusal::WrongDataLength);
     }
-    if right_bytes != adpcm_bytes(right) {
-        return 11;
-    }
-    0
+    Ok(())
 }
 
 // Whether the coefficients are the same.
 fn same(a: [i16; 16], b: [i16; 16]) -> bool
     ensures { result ≡ same_z a b }
 {
-    let mut i: usize = 0;
-    while i < 16 {
-        let x = a[i];
-        let y = b[i];
-        if x != y {
-            return false;
-        }
-        i += 1;
-    }
-    true
+    a == b
 }
 
 // 23
+#[tactic(auto, unfolding(writer::specs::Loading::coefficients_due, layout::specs::Refusals::first_due))]
 fn coefficients_due(
     blocks: usize,
     first: [i16; 16],
@@ -163,21 +148,16 @@ fn coefficients_due(
     channels: usize,
     left: [i16; 16],
     right: [i16; 16],
-) -> u32
-    ensures { result ≡ first_due (coefficients_due blocks first second channels left right) }
+) -> Result<(), Refusal>
+    ensures { due_number result ≡ first_due (coefficients_due blocks first second channels left right) }
 {
-    if blocks == 0 {
-        return 0;
+    if blocks > 0 && !same(left, first) {
+        return Err(Refusal::CoefficientsChanged);
     }
-    if same(left, first) {
-        if channels != 2 {
-            return 0;
-        }
-        if same(right, second) {
-            return 0;
-        }
+    if blocks > 0 && channels == 2 && !same(right, second) {
+        return Err(Refusal::CoefficientsChanged);
     }
-    23
+    Ok(())
 }
 
 // All from 25 on and before 24: by what the record keeps, the first block's sides among it, and the push.
@@ -190,44 +170,33 @@ pub fn early_due(
     right: ChannelBlock,
     left_bytes: usize,
     right_bytes: usize,
-) -> u32
-    ensures { result ≡ first_due (early_due blocks first second channels left right left_bytes right_bytes) }
+) -> Result<(), Refusal>
+    ensures { due_number result ≡ first_due (early_due blocks first second channels left right left_bytes right_bytes) }
 {
-    let count = blocks_due(blocks);
-    if count != 0 {
-        return count;
-    }
-    let rate = rate_due(blocks, first.rate, channels, left.rate, right.rate);
-    if rate != 0 {
-        return rate;
-    }
-    let length = length_due(channels, left.length, right.length);
-    if length != 0 {
-        return length;
-    }
-    let bytes = data_due(channels, left.length, left_bytes, right.length, right_bytes);
-    if bytes != 0 {
-        return bytes;
-    }
-    let fc = first.coefficients;
-    let sc = second.coefficients;
-    let lc = left.coefficients;
-    let rc = right.coefficients;
-    coefficients_due(blocks, fc, sc, channels, lc, rc)
+    blocks_due(blocks)?;
+    rate_due(blocks, first.rate, channels, left.rate, right.rate)?;
+    length_due(channels, left.length, right.length)?;
+    data_due(channels, left.length, left_bytes, right.length, right_bytes)?;
+    coefficients_due(
+        blocks,
+        first.coefficients,
+        second.coefficients,
+        channels,
+        left.coefficients,
+        right.coefficients,
+    )
 }
 
 // 24, 14
-pub fn room_due(slot: usize, offset: usize, size: usize, lent: usize) -> u32
-    ensures { result ≡ first_due (room_due slot offset size lent) }
+#[tactic(auto, unfolding(writer::specs::Loading::room_due, layout::specs::Refusals::first_due))]
+pub fn room_due(slot: usize, offset: usize, size: usize, lent: usize) -> Result<(), Refusal>
+    ensures { due_number result ≡ first_due (room_due slot offset size lent) }
 {
-    if slot < offset {
-        return 24;
-    }
-    if slot - offset < size {
-        return 24;
+    if slot < offset || slot - offset < size {
+        return Err(Refusal::PastSlotEnd);
     }
     if lent < size {
-        return 14;
+        return Err(Refusal::LentTooShort);
     }
-    0
+    Ok(())
 }

@@ -6,32 +6,28 @@ use Rattle.cut_answer.proofs.AnswerLaws.{told_refused, all_logged, small, told_s
 use Rattle.cut_answer.proofs.answer_script.Given.{Over}
 use borrow.Author.Rules.{rules}
 use Rattle.cut_answer.proofs.answer_script.Goals as goal
-use Rattle.cut_answer.proofs.answer_script.Goals.{Else-loaded}
+use Rattle.cut_answer.proofs.answer_script.Goals.{In-Some}
 
-pub returns-then-loaded : goal.returns-then-loaded
-returns-then-loaded g c =
-    told_refused _ _ c.log_room-logged.ensures (c.load-loaded.ensures.value, c.load-loaded.ensures.logged_after)
-    c.requires _ c.if-loaded.true
+pub returns-in_default-load : goal.returns-in_default-load
+returns-in_default-load g c = told_refused _ _ c.log_room-logged.ensures c.requires _ c.in_default-load.ensures.value
 
 -- An accepted begin's slot is short enough for the buffer.
-short : (g : Over) (c : Else-loaded g) → length c.args.earlier.now ≤ key_limit
+short : (g : Over) (c : In-Some g) → length c.args.earlier.now ≤ key_limit
 short g c =
-    small _ _ c.log_room-logged.ensures (c.load-loaded.ensures.value, c.load-loaded.ensures.logged_after)
-    c.requires c.if-loaded.false
+    small _ _ c.log_room-logged.ensures c.requires c.in-Some.ensures.value c.in-Some.ensures.logged_after
 
 pub slice_bounds-slot-end : goal.slice_bounds-slot-end
-slice_bounds-slot-end g c = let h = short g (goal.at.slice_bounds-slot-end g c).Else-loaded in search rules
+slice_bounds-slot-end g c = let h = short g (goal.at.slice_bounds-slot-end g c).In-Some in search rules
 
 pub slice_bounds-show-end : goal.slice_bounds-show-end
 slice_bounds-show-end g c =
-    let h = short g (goal.at.slice_bounds-show-end g c).Else-loaded in
+    let h = short g (goal.at.slice_bounds-show-end g c).In-Some in
     copy_length _ _ (search rules) c.put_bytes.ensures
 
 pub show-requires : goal.show-requires
 show-requires g c =
-    let h = short g (goal.at.show-requires g c).Else-loaded in
-    let logged = all_logged _ _ c.log_room-logged.ensures (c.load-loaded.ensures.value, c.load-loaded.ensures.logged_after)
-    c.requires c.if-loaded.false in
+    let h = short g (goal.at.show-requires g c).In-Some in
+    let logged = all_logged _ _ c.log_room-logged.ensures c.requires c.in-Some.ensures.value c.in-Some.ensures.logged_after in
     record {
       listed = logged;
       slot_value = (copy_first _ _ (search rules) c.put_bytes.ensures, h);
@@ -39,5 +35,4 @@ show-requires g c =
 
 pub returns : goal.returns
 returns g c =
-    told_shown _ _ c.log_room-logged.ensures (c.load-loaded.ensures.value, c.load-loaded.ensures.logged_after)
-    c.requires c.if-loaded.false _ c.show.ensures
+    told_shown _ _ c.log_room-logged.ensures c.requires c.in-Some.ensures.value c.in-Some.ensures.logged_after _ c.show.ensures

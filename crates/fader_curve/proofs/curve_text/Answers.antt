@@ -26,11 +26,5 @@ loop-k-preserved c = next (goal.at.loop-k-preserved c).After-put_entry-at
 pub overflow_add-at : goal.overflow_add-at
 overflow_add-at c = let p = next (goal.at.overflow_add-at c).After-put_entry-at in omega (arith, at-is p, p.few)
 
-pub overflow_add-k : goal.overflow_add-k
-overflow_add-k c = omega (arith, (next (goal.at.overflow_add-k c).After-put_entry-at).few)
-
-pub loop-k-smaller : goal.loop-k-smaller
-loop-k-smaller c = omega (arith, c.loop-k-test.true)
-
 pub returns : goal.returns
 returns c = putting_all c.loop-k.invariant (omega (arith, c.loop-k-test.false))

@@ -1,7 +1,7 @@
 use mathlib.Core.Path.{◌≡◌, ap, ◌∙◌}
-use native.Mathlib.Omega.{arith}
 use lib.ListN.{length}
 use Rattle.layout.specs.Refusals.{cue_limit}
+use Rattle.layout.specs.Lists.{any}
 use Rattle.writer.specs.Loading.{any_loop}
 use Rattle.writer.specs.declared.Cue.{Cue}
 use mathlib.Core.List.{List}
@@ -13,9 +13,7 @@ use Rattle.writer_assign_cues.proofs.any_loop.Goals.{Start}
 table : (c : Start) → length c.args.cues ≡ cue_limit
 table c = search rules
 
-pub has_loop-requires : goal.has_loop-requires
-has_loop-requires c = omega (arith, c.least-most.ensures)
-
 pub returns : goal.returns
+unfolding any
 returns c =
-    c.has_loop.ensures ∙ ap (λ (l : List Cue). any_loop l) (same-part c.args.cues c.args.count _ (table (goal.at.returns c).Start) c.least-most.ensures 0)
+    c.has_loop.ensures ∙ ap (λ (l : List Cue). any_loop l) (same-part c.args.cues c.args.count _ (table (goal.at.returns c).Start) c.min-most.ensures 0)

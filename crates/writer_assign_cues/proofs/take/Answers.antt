@@ -11,12 +11,12 @@ table : (c : Start) → length c.args.cues ≡ cue_limit
 table c = search rules
 
 pub take_within-requires : goal.take_within-requires
-take_within-requires c = (omega arith, omega (arith, c.least-most.ensures))
+take_within-requires c = (omega arith, omega (arith, c.min-most.ensures))
 
 pub returns-then-from-most : goal.returns-then-from-most
 returns-then-from-most c =
-    same_taken c.args.cues c.args.count _ (table (goal.at.returns-then-from-most c).Start) c.least-most.ensures c.args.from c.args.end c.args.last c.take_within.ensures
+    same_taken c.args.cues c.args.count _ (table (goal.at.returns-then-from-most c).Start) c.min-most.ensures c.args.from c.args.end c.args.last c.take_within.ensures
 
 pub returns : goal.returns
 returns c =
-    no_cue-left c.args.cues c.args.count _ (table (goal.at.returns c).Start) c.least-most.ensures c.args.from c.args.end c.args.last (omega arith)
+    no_cue-left c.args.cues c.args.count _ (table (goal.at.returns c).Start) c.min-most.ensures c.args.from c.args.end c.args.last (omega arith)

@@ -1,113 +1,124 @@
-use Prim.Native.Nat.{◌+◌, ◌≤◌}
-use mathlib.Core.Path.{◌≡◌, ap, sym, ◌∙◌}
-use mathlib.Core.Bool.{false}
-use native.Mathlib.Omega.{arith}
-use Rattle.layout.specs.Records.{data_after}
+use Rattle.std.proofs.Common.{◌≡◌, ℕ, ◌+◌, ◌≤◌, Err, refl, ap, sym, ◌∙◌, arith, rules}
+use borrow.Author.Tests.{eqb-false}
 use Rattle.layout.specs.Refusals.{length_limit}
-use Rattle.writer.specs.Loading.{data_size, no_addresses}
+use Rattle.writer.proofs.DueLaws.{not_zero}
+use Rattle.writer_push_plan.specs.PushPlan.{plan_says}
 use Rattle.writer_push_plan.proofs.PlanLaws.{Passing, passing, size_small, block-small, fits-room, plan_state, plan_asked, plan_early_asked, plan_many, plan_room, plan_made, loop_near}
-use borrow.Author.Rules.{rules}
 use Rattle.writer_push_plan.proofs.plan_push.Goals as goal
-use Rattle.writer_push_plan.proofs.plan_push.Goals.{After-data_size-data, After-data_start-start, Else-early-ne0, Else-empty, Else-room-ne0}
 
--- ---- What is known at the places of the code
+ap_sum : {x y m n : ℕ} → x ≡ m → y ≡ n → x + y ≡ m + n
+ap_sum e f = rw (e, f)
 
--- the push is not empty
-some : (c : Else-empty) → let a = c.args in no_addresses a.channels a.left.length a.right.length a.left_bytes a.right_bytes a.last ≡ false
-some c = sym c.no_addresses-empty.ensures ∙ c.if-empty.false
+-- ---- The refusals and the empty push
 
--- none before 24 is due
-early-none : (c : Else-early-ne0) → let a = c.args in Passing a.s.blocks a.channels a.left a.left_bytes a.right_bytes
-early-none c = passing _ _ _ _ _ _ _ _ _ c.early_due-early.ensures c.if-early-ne0.false
+pub returns-in_err-state_due-clause-planned : goal.returns-in_err-state_due-clause-planned
+returns-in_err-state_due-clause-planned c =
+    let a = c.args in
+    let x = c.in_err-state_due.field-0.0 in
+    let e : c.from_residual.result ≡ Err x = search rules in
+    plan_state a.setup a.s a.taken a.held a.end a.channels a.left a.right a.left_bytes a.right_bytes a.last a.lent _ c.in_err-state_due.ensures
+    (eqb-false _ 0 (not_zero x)) _ (ap (plan_says a.s) e)
 
-small : (c : After-data_size-data) → let a = c.args in Passing a.s.blocks a.channels a.left a.left_bytes a.right_bytes → c.data_size-data.result ≤ length_limit
-small c h = size_small _ _ _ _ h.left h.right c.data_size-data.ensures
+pub returns-then-empty-clause-planned : goal.returns-then-empty-clause-planned
+returns-then-empty-clause-planned c =
+    let a = c.args in
+    plan_asked a.setup a.s a.taken a.held a.end a.channels a.left a.right a.left_bytes a.right_bytes a.last a.lent 0 c.in_ok-state_due.ensures refl _
+    c.no_addresses-empty.ensures c.if-empty.true _ refl
 
-sized : (c : After-data_start-start) → let a = c.args in
-    c.data_start-start.result + c.data_size-data.result ≡ data_after a.taken.points + data_size a.channels a.left_bytes a.right_bytes
-sized c = rw (c.data_start-start.ensures, c.data_size-data.ensures)
+pub returns-in_err-early_due-clause-planned : goal.returns-in_err-early_due-clause-planned
+returns-in_err-early_due-clause-planned c =
+    let a = c.args in
+    let x = c.in_err-early_due.field-0.0 in
+    let e : c.from_residual-in_err-early_due.result ≡ Err x = search rules in
+    plan_early_asked a.setup a.s a.taken a.held a.end a.channels a.left a.right a.left_bytes a.right_bytes a.last a.lent 0 c.in_ok-state_due.ensures refl _
+    c.no_addresses-empty.ensures _ c.in_err-early_due.ensures c.if-empty.false (eqb-false _ 0 (not_zero x)) _ (ap (plan_says a.s) e)
 
--- the block fits into slot and buffer
-room : (c : Else-room-ne0)
-    → (c.args.s.offset + (c.data_start-start.result + c.data_size-data.result) ≤ c.args.setup.slot)
-    × (c.data_start-start.result + c.data_size-data.result ≤ c.args.lent)
-room c = fits-room _ _ _ _ _ c.room_due-room.ensures c.if-room-ne0.false
+pub returns-then-taken-gt-SLOT_LIMIT-clause-planned : goal.returns-then-taken-gt-SLOT_LIMIT-clause-planned
+returns-then-taken-gt-SLOT_LIMIT-clause-planned c =
+    let a = c.args in
+    plan_many a.setup a.s a.taken a.held a.end a.channels a.left a.right a.left_bytes a.right_bytes a.last a.lent 0 c.in_ok-state_due.ensures refl
+    (sym c.no_addresses-empty.ensures ∙ c.if-empty.false) 0 c.in_ok-early_due.ensures refl (omega (arith, c.requires.small, c.if-taken-gt-SLOT_LIMIT.true)) _ refl
 
--- ---- The needs
+pub returns-in_err-room_due-clause-planned : goal.returns-in_err-room_due-clause-planned
+returns-in_err-room_due-clause-planned c =
+    let a = c.args in
+    let x = c.in_err-room_due.field-0.0 in
+    let e : c.from_residual-in_err-room_due.result ≡ Err x = search rules in
+    plan_room a.setup a.s a.taken a.held a.end a.channels a.left a.right a.left_bytes a.right_bytes a.last a.lent 0 c.in_ok-state_due.ensures refl
+    (sym c.no_addresses-empty.ensures ∙ c.if-empty.false) 0 c.in_ok-early_due.ensures refl _ _ (ap_sum c.data_start-start.ensures c.data_size-data.ensures)
+    c.in_err-room_due.ensures (eqb-false _ 0 (not_zero x)) _ (ap (plan_says a.s) e)
 
-pub returns-then-state-ne0 : goal.returns-then-state-ne0
-returns-then-state-ne0 c = search (plan_state, rules)
-
-pub returns-then-empty : goal.returns-then-empty
-returns-then-empty c = search (plan_asked, rules)
-
-pub returns-then-early-ne0 : goal.returns-then-early-ne0
-returns-then-early-ne0 c = search (plan_early_asked, rules)
-
-pub returns-then-taken-gt-SLOT_LIMIT : goal.returns-then-taken-gt-SLOT_LIMIT
-returns-then-taken-gt-SLOT_LIMIT c =
-    plan_many c.args.setup c.args.s c.args.taken c.args.held c.args.end c.args.channels c.args.left c.args.right c.args.left_bytes c.args.right_bytes c.args.last
-    c.args.lent _ c.state_due-state.ensures c.if-state-ne0.false (some (goal.at.returns-then-taken-gt-SLOT_LIMIT c).Else-empty) _
-    c.early_due-early.ensures c.if-early-ne0.false (omega (arith, c.requires.small, c.if-taken-gt-SLOT_LIMIT.true)) _
-    c.no_plan-then-taken-gt-SLOT_LIMIT.ensures
+-- ---- The block
 
 pub data_size-data-requires : goal.data_size-data-requires
-data_size-data-requires c = let h = early-none (goal.at.data_size-data-requires c).Else-early-ne0 in (h.left, h.right)
+data_size-data-requires c =
+    let a = c.args in
+    let h : Passing a.s.blocks a.channels a.left a.left_bytes a.right_bytes = passing 0 _ _ _ _ _ _ _ _ c.in_ok-early_due.ensures refl in
+    (h.left, h.right)
 
 pub overflow_add-size : goal.overflow_add-size
 overflow_add-size c =
-    let h = early-none (goal.at.overflow_add-size c).Else-early-ne0 in
-    omega (
-      arith,
-      block-small _ _ _ c.if-taken-gt-SLOT_LIMIT.false (small (goal.at.overflow_add-size c).After-data_size-data h)
-          (ap (λ m. m + c.data_size-data.result) c.data_start-start.ensures),
-    )
-
-pub returns-then-room-ne0 : goal.returns-then-room-ne0
-returns-then-room-ne0 c =
-    plan_room c.args.setup c.args.s c.args.taken c.args.held c.args.end c.args.channels c.args.left c.args.right c.args.left_bytes c.args.right_bytes c.args.last
-    c.args.lent _ c.state_due-state.ensures c.if-state-ne0.false (some (goal.at.returns-then-room-ne0 c).Else-empty) _ c.early_due-early.ensures
-    c.if-early-ne0.false _ _ (sized (goal.at.returns-then-room-ne0 c).After-data_start-start) c.room_due-room.ensures c.if-room-ne0.true _
-    c.no_plan-then-room-ne0.ensures
+    let a = c.args in
+    let h : Passing a.s.blocks a.channels a.left a.left_bytes a.right_bytes = passing 0 _ _ _ _ _ _ _ _ c.in_ok-early_due.ensures refl in
+    let d : c.data_size-data.result ≤ length_limit = size_small _ _ _ _ h.left h.right c.data_size-data.ensures in
+    omega (arith, block-small _ _ _ c.if-taken-gt-SLOT_LIMIT.false d (ap (λ m. m + c.data_size-data.result) c.data_start-start.ensures))
 
 pub overflow_add-s : goal.overflow_add-s
-overflow_add-s c = omega (arith, (room (goal.at.overflow_add-s c).Else-room-ne0).0, c.requires.small)
+overflow_add-s c =
+    let a = c.args in
+    let r : (a.s.offset + (c.data_start-start.result + c.data_size-data.result) ≤ a.setup.slot) × (c.data_start-start.result + c.data_size-data.result ≤ a.lent) =
+    fits-room _ _ _ _ 0 c.in_ok-room_due.ensures refl in
+    omega (arith, r.0, c.requires.small)
 
 pub next_offset-next-requires : goal.next_offset-next-requires
 next_offset-next-requires c =
+    let a = c.args in
     let g = c.requires in
+    let r : (a.s.offset + (c.data_start-start.result + c.data_size-data.result) ≤ a.setup.slot) × (c.data_start-start.result + c.data_size-data.result ≤ a.lent) =
+    fits-room _ _ _ _ 0 c.in_ok-room_due.ensures refl in
     record {
-      end_bound = omega (arith, (room (goal.at.next_offset-next-requires c).Else-room-ne0).0, g.small);
+      end_bound = omega (arith, r.0, g.small);
       by_index = λ n q. omega (arith, loop_near _ _ g c.loop_due-due.result _ c.loop_after-loopat.ensures n q, g.room, g.small);
     }
 
 pub overflow_cast-padded : goal.overflow_cast-padded
 overflow_cast-padded c =
-    let h = early-none (goal.at.overflow_cast-padded c).Else-early-ne0 in
-    record { fits = omega (arith, small (goal.at.overflow_cast-padded c).After-data_size-data h) }
+    let a = c.args in
+    let h : Passing a.s.blocks a.channels a.left a.left_bytes a.right_bytes = passing 0 _ _ _ _ _ _ _ _ c.in_ok-early_due.ensures refl in
+    let d : c.data_size-data.result ≤ length_limit = size_small _ _ _ _ h.left h.right c.data_size-data.ensures in
+    record { fits = omega arith }
 
 pub overflow_sub-last_address : goal.overflow_sub-last_address
-overflow_sub-last_address c = omega (arith, (early-none (goal.at.overflow_sub-last_address c).Else-early-ne0).long)
+overflow_sub-last_address c =
+    let a = c.args in
+    let h : Passing a.s.blocks a.channels a.left a.left_bytes a.right_bytes = passing 0 _ _ _ _ _ _ _ _ c.in_ok-early_due.ensures refl in
+    omega (arith, h.long)
 
 pub overflow_cast-end_address : goal.overflow_cast-end_address
-overflow_cast-end_address c = record { fits = omega (arith, (early-none (goal.at.overflow_cast-end_address c).Else-early-ne0).short) }
+overflow_cast-end_address c =
+    let a = c.args in
+    let h : Passing a.s.blocks a.channels a.left a.left_bytes a.right_bytes = passing 0 _ _ _ _ _ _ _ _ c.in_ok-early_due.ensures refl in
+    record { fits = omega (arith, h.short) }
 
 pub advance-after-requires : goal.advance-after-requires
 advance-after-requires c =
-    let h = early-none (goal.at.advance-after-requires c).Else-early-ne0 in
+    let a = c.args in
+    let h : Passing a.s.blocks a.channels a.left a.left_bytes a.right_bytes = passing 0 _ _ _ _ _ _ _ _ c.in_ok-early_due.ensures refl in
+    let r : (a.s.offset + (c.data_start-start.result + c.data_size-data.result) ≤ a.setup.slot) × (c.data_start-start.result + c.data_size-data.result ≤ a.lent) =
+    fits-room _ _ _ _ 0 c.in_ok-room_due.ensures refl in
     let g = c.requires in
     let few = c.if-taken-gt-SLOT_LIMIT.false in (
       omega (arith, g.named, g.placed, g.few, few),
       h.few,
       few,
-      omega (arith, (room (goal.at.advance-after-requires c).Else-room-ne0).0, g.small),
+      omega (arith, r.0, g.small),
       omega (arith, h.short, g.sums, g.many),
     )
 
-pub returns : goal.returns
-returns c =
-    plan_made c.args.setup c.args.s c.args.taken c.args.held c.args.end c.args.channels c.args.left c.args.right c.args.left_bytes c.args.right_bytes c.args.last
-    c.args.lent _ c.state_due-state.ensures c.if-state-ne0.false (some (goal.at.returns c).Else-empty) _ c.early_due-early.ensures
-    c.if-early-ne0.false _ _ (sized (goal.at.returns c).After-data_start-start) c.room_due-room.ensures c.if-room-ne0.false _ c.loop_due-due.ensures _
-    c.loop_after-loopat.ensures _ _ _ _ _ c.data_size-data.ensures c.data_start-start.ensures c.next_offset-next.ensures c.second_context-other.ensures
-    c.advance-after.ensures
+pub returns-clause-planned : goal.returns-clause-planned
+returns-clause-planned c =
+    let a = c.args in
+    plan_made a.setup a.s a.taken a.held a.end a.channels a.left a.right a.left_bytes a.right_bytes a.last a.lent 0 c.in_ok-state_due.ensures refl
+    (sym c.no_addresses-empty.ensures ∙ c.if-empty.false) 0 c.in_ok-early_due.ensures refl 0 _ (ap_sum c.data_start-start.ensures c.data_size-data.ensures)
+    c.in_ok-room_due.ensures refl _ c.loop_due-due.ensures _ c.loop_after-loopat.ensures _ _ _ _ _ c.data_size-data.ensures c.data_start-start.ensures
+    c.next_offset-next.ensures c.second_context-other.ensures c.advance-after.ensures

@@ -51,7 +51,7 @@ pub fn push_kept(
     let end = block_end(f.stream.base, left.length);
     let taken = take_kept(kept, f, end, last);
     let held = held_kept(kept, f);
-    let plan = plan_push(
+    let planned = plan_push(
         f.setup,
         f.stream,
         taken,
@@ -64,18 +64,15 @@ pub fn push_kept(
         right_data.len(),
         last,
         lent.len(),
-    );
-    if plan.due != 0 {
-        return Err(Failure::Refused(plan.due));
-    }
+    )?;
     // An empty push: no block, and nothing to keep.
-    if plan.size == 0 {
+    let Some(plan) = planned else {
         let nowhere = Place {
             offset: 0,
             length: 0,
         };
         return Ok(nowhere);
-    }
+    };
     put_header(lent, 0, plan.header);
     put_taken_kept(lent, BLOCK_HEADER_SIZE, kept, f, taken);
     put_data(lent, plan.start, channels, left_data, right_data);

@@ -27,7 +27,7 @@ use Rattle.writer.proofs.GoodLaws.{parts_good}
 use Rattle.writer_push.proofs.PushLaws.{push_refused, push_nothing, push_accepted, to_within, are_taken, Worked, due-is, some_block, no_block, totals, sized, room, bytes_are}
 use Rattle.c_loading.specs.KeptLoading.{kept_says, place_in, where_written}
 use Rattle.writer.specs.declared.Called.{Called}
-use Rattle.c_loading.proofs.CallLaws.{told_on, some_says, left_err}
+use Rattle.c_loading.proofs.CallLaws.{told_on, numbered_err, some_says, left_err}
 use Rattle.c_record_put.specs.KeptRecord.{pushed_bytes}
 use Rattle.c_loading.proofs.AfterLaws.{holds}
 use Rattle.c_loading.proofs.BackLaws.{SideFits}
@@ -125,15 +125,15 @@ plan_push-requires c =
     let k = c.args.kept.now in
     rw (there (goal.at.plan_push-requires c).In_ok-f).0 (parts_good (writer_in k) (kept_good k))
 
-pub returns-in_err-planned : goal.returns-in_err-planned
-returns-in_err-planned c =
+pub returns-in_err-planned-clause-given : goal.returns-in_err-planned-clause-given
+returns-in_err-planned-clause-given c =
     let k = c.args.kept.now in
-    let e = (there (goal.at.returns-in_err-planned c).In_ok-f).1 in
-    let p = pushed (goal.at.returns-in_err-planned c).Start in
+    let e = (there (goal.at.returns-in_err-planned-clause-given c).In_ok-f).1 in
+    let p = pushed (goal.at.returns-in_err-planned-clause-given c).Start in
     let x = c.in_err-planned.field-0.0 in
     let h = eqb-false (number_of x) 0 (not_zero x) in
     let told = c.from_residual-in_err-planned.ensures.1 in
-    let w = worked (goal.at.returns-in_err-planned c).After-plan_push (Err x) (sym c.in_err-planned.was) in
+    let w = worked (goal.at.returns-in_err-planned-clause-given c).After-plan_push (Err x) (sym c.in_err-planned.was) in
     let q = push_refused (writer_in k) p c.args.lent.now (number_of x) (due-is w) h _ refl in (
       ap kept_says (told_on _ _ told) ∙ some_says k (push_of (writer_in k) p c.args.lent.now) e _ (ap (λ (y : Called). place_in y.reply) q.0),
       left_err _ _ _ _ told h,
@@ -141,13 +141,18 @@ returns-in_err-planned c =
       left_err _ _ _ _ told h,
     )
 
+pub returns-in_err-planned-clause-fails : goal.returns-in_err-planned-clause-fails
+returns-in_err-planned-clause-fails c =
+    let x = c.in_err-planned.field-0.0 in
+    numbered_err _ _ c.from_residual-in_err-planned.ensures.1 (eqb-false (number_of x) 0 (not_zero x))
+
 -- an empty push
-pub returns-in_default : goal.returns-in_default
-returns-in_default c =
-    let e = (there (goal.at.returns-in_default c).In_ok-f).1 in
-    let p = pushed (goal.at.returns-in_default c).Start in
+pub returns-in_default-clause-given : goal.returns-in_default-clause-given
+returns-in_default-clause-given c =
+    let e = (there (goal.at.returns-in_default-clause-given c).In_ok-f).1 in
+    let p = pushed (goal.at.returns-in_default-clause-given c).Start in
     let k = c.args.kept.now in
-    let w = worked (goal.at.returns-in_default c).After-plan_push (Ok None) (planned-is c.in_ok-planned.was c.in_default.is) in
+    let w = worked (goal.at.returns-in_default-clause-given c).After-plan_push (Ok None) (planned-is c.in_ok-planned.was c.in_default.is) in
     let q = push_nothing (writer_in k) p c.args.lent.now 0 (due-is w) refl (no_block w refl refl) in (
       some_says k (push_of (writer_in k) p c.args.lent.now) e _ (ap (λ (x : Called). place_in x.reply) q.0),
       q.1,
@@ -171,14 +176,14 @@ put_taken_kept-requires c =
 pub put_pushed-requires : goal.put_pushed-requires
 put_pushed-requires c = omega (arith, (holds c.args.kept.now (there (goal.at.put_pushed-requires c).In_ok-f).1).room)
 
-pub returns : goal.returns
-returns c =
-    let s = (goal.at.returns c).Start in
+pub returns-clause-given : goal.returns-clause-given
+returns-clause-given c =
+    let s = (goal.at.returns-clause-given c).Start in
     let k = c.args.kept.now in
-    let held = there (goal.at.returns c).In_ok-f in
+    let held = there (goal.at.returns-clause-given c).In_ok-f in
     let e = held.1 in
     let is = held.0 in
-    let w = worked (goal.at.returns c).After-plan_push (Ok (Some c.in-Some.plan)) (planned-is c.in_ok-planned.was c.in-Some.is) in
+    let w = worked (goal.at.returns-clause-given c).After-plan_push (Ok (Some c.in-Some.plan)) (planned-is c.in_ok-planned.was c.in-Some.is) in
     let n = some_block w (has-bytes c.in-Some.is c.in_ok-planned.ensures.some_bytes) in
     let taken-to = c.take_kept-taken.result.to in
     let put = c.put_taken_kept.ensures
@@ -187,7 +192,7 @@ returns c =
     let q = push_accepted (writer_in k) (pushed s) c.args.lent.now _ (due-is w) refl n _ _ _ refl (sized w refl n) (room w refl n).1 b in
     let r = some_says k (push_of (writer_in k) (pushed s) c.args.lent.now) e _ (ap (λ (x : Called). place_in x.reply) q.0) in
     let after = c.put_pushed.ensures ∙ ap (λ (m : Fields). put_at k 0 (pushed_bytes (fields_with m c.in-Some.plan.after))) is in
-    let long : (stream_in k).setup.channels < 18446744073709551616 = omega (arith, channels (goal.at.returns c).In_ok-f, ap (λ (m : Fields). m.setup.channels) is) in
+    let long : (stream_in k).setup.channels < 18446744073709551616 = omega (arith, channels (goal.at.returns-clause-given c).In_ok-f, ap (λ (m : Fields). m.setup.channels) is) in
     let stays = push_stream k e w refl n (left-fits s) (right_fits s) long in (
       ap (λ (m : Fields). kept_says (Ok (record { offset = m.stream.offset; length = c.in-Some.plan.size }))) is ∙ r,
       q.1,

@@ -20,7 +20,7 @@ use Rattle.writer.specs.declared.Looping.{Looping}
 use Rattle.writer.specs.declared.Cue.{Cue}
 use Rattle.writer.specs.declared.HpsWriter.{HpsWriter}
 use Rattle.c_record.specs.KeptWriter.{stream_in}
-use Rattle.c_loading.specs.KeptLoading.{call_in, kept_says, place_in, on_kept, given_after}
+use Rattle.c_loading.specs.KeptLoading.{call_in, kept_says, numbered, place_in, on_kept, given_after}
 
 -- what is lent, after a call that is refused and after one that is accepted
 module _ {A : Type 0} (n : ℕ) (before given : A) where
@@ -38,6 +38,9 @@ told_on (Err y) e h = ap Err h
 -- and with it all is left
 pub left_err : {A : Type 0} (x : Result Place Failure) (e : Failure) (before given : A) → IsErrAnd x (λ y. y ≡ e) → (failure_number e ≡ 0 → ⊥) → before ≡ given_after (kept_says x).number before given
 left_err x e before given h n = rw (told_on x e h, ne_eqb (failure_number e) 0 n)
+
+pub numbered_err : (x : Result Place Failure) (e : Failure) → IsErrAnd x (λ y. y ≡ e) → (failure_number e ≡ 0 → ⊥) → numbered x
+numbered_err x e h n = rw (told_on x e h) n
 
 -- a mode that there is
 pub mode_gives : (n : ℕ) (m : Looping) → Ok m ≡ where_kind n (mode_of n) → m ≡ mode_of n

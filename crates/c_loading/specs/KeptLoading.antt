@@ -1,5 +1,5 @@
 -- What the loading calls on a record in lent bytes give.
-use Rattle.std.specs.Prelude.{ℕ, List, length, ltb, eqb, Result, Ok, Err}
+use Rattle.std.specs.Prelude.{ℕ, ◌≡◌, List, length, ltb, eqb, Result, Ok, Err}
 use Rattle.layout.specs.Choice.{pick}
 use Rattle.layout.specs.Puts.{put_at}
 use Rattle.layout.specs.Records.{be32}
@@ -36,6 +36,11 @@ call_in (ThreeWrites n p q r) = record { number = 0; offset = 0; length = n }
 abbrev pub kept_says : Result Place Failure → KeptCall
 kept_says (Ok p) = record { number = 0; offset = p.offset; length = p.length }
 kept_says (Err e) = no_call (failure_number e)
+
+-- A call that gives no place has a number.
+abbrev pub numbered : Result Place Failure → Type 0
+numbered (Ok p) = Unit {0}
+numbered (Err e) = failure_number e ≡ 0 → ⊥
 
 -- The place of a reply's one write, or the finished length.
 abbrev pub place_in : Reply → Result Place Failure

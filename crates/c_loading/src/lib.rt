@@ -5,7 +5,7 @@ ghost use Rattle.std.specs.Prelude.{◌≡◌};
 ghost use Rattle.writer.specs.Loading.{mode_of};
 ghost use Rattle.writer.specs.Calls.{begin_of, cue_of, finish_of};
 ghost use Rattle.c_record.specs.KeptWriter.{writer_in};
-ghost use Rattle.c_loading.specs.KeptLoading.{kept_says, place_in, call_of, where_room, on_kept, given_after, bytes_begun, bytes_cued, bytes_finished};
+ghost use Rattle.c_loading.specs.KeptLoading.{kept_says, numbered, place_in, call_of, where_room, on_kept, given_after, bytes_begun, bytes_cued, bytes_finished};
 
 use c_opened::failure::Failure;
 use c_record::Fields;
@@ -45,6 +45,7 @@ pub fn begin_kept(
     lent: &mut [u8],
 ) -> Result<Place, Failure>
     ensures value { kept_says result ≡ where_room kept.old mode (call_of (begin_of slot channels (mode_of mode) lent.old)) }
+    ensures fails { numbered result }
     ensures lent_after { lent.new ≡ given_after (kept_says result).number lent.old (begin_of slot channels (mode_of mode) lent.old).lent }
     ensures kept_after { kept.new ≡ given_after (kept_says result).number kept.old (bytes_begun kept.old (begin_of slot channels (mode_of mode) lent.old)) }
     ensures kept_after_2 { writer_in kept.new ≡ given_after (kept_says result).number (writer_in kept.old) (begin_of slot channels (mode_of mode) lent.old).writer }
@@ -77,6 +78,7 @@ pub fn cue_kept(kept: &mut [u8], c: Cue) -> Result<Place, Failure>
 // Finish: gives the finished length; its three writes' bytes lie in the lent buffer one after the other.
 pub fn finish_kept(kept: &mut [u8], lent: &mut [u8]) -> Result<Place, Failure>
     ensures value { kept_says result ≡ on_kept kept.old (finish_of (writer_in kept.old) lent.old) }
+    ensures fails { numbered result }
     ensures lent_after { lent.new ≡ given_after (kept_says result).number lent.old (finish_of (writer_in kept.old) lent.old).lent }
     ensures kept_after { kept.new ≡ given_after (kept_says result).number kept.old (bytes_finished kept.old) }
     ensures kept_after_2 { writer_in kept.new ≡ given_after (kept_says result).number (writer_in kept.old) (finish_of (writer_in kept.old) lent.old).writer }

@@ -14,7 +14,7 @@ use Rattle.c_record.specs.KeptWriter.{writer_in}
 use Rattle.c_record_put.specs.KeptRecord.{record_bytes}
 use Rattle.c_record_put.proofs.RecordLaws.{record_put}
 use Rattle.c_loading.proofs.BackLaws.{begin-after, begin-sixteen}
-use Rattle.c_loading.proofs.CallLaws.{left_err, mode_gives, begin_err, begin_ok}
+use Rattle.c_loading.proofs.CallLaws.{left_err, numbered_err, mode_gives, begin_err, begin_ok}
 use Rattle.c_loading.proofs.begin_kept.Goals as goal
 use Rattle.c_loading.proofs.begin_kept.Goals.{After-begin-call, After-from_residual-in_err-place, After-put_sides}
 
@@ -38,6 +38,10 @@ pub returns-in_err-place-clause-lent_after : goal.returns-in_err-place-clause-le
 returns-in_err-place-clause-lent_after c =
     let z = begin_err c.args.slot c.args.channels (mode_of c.args.mode) c.args.lent.now _ (refused c) in
     (told (goal.at.returns-in_err-place-clause-kept_after c).After-begin-call).1 ∙ z.1 ∙ left_err _ _ _ _ c.from_residual-in_err-place.ensures.1 z.0
+
+pub returns-in_err-place-clause-fails : goal.returns-in_err-place-clause-fails
+returns-in_err-place-clause-fails c =
+    numbered_err _ _ c.from_residual-in_err-place.ensures.1 (begin_err c.args.slot c.args.channels (mode_of c.args.mode) c.args.lent.now _ (refused c)).0
 
 pub returns-in_err-place-clause-kept_after : goal.returns-in_err-place-clause-kept_after
 returns-in_err-place-clause-kept_after c =

@@ -7,7 +7,7 @@ use Rattle.writer.specs.declared.HpsWriter.{HpsWriter}
 use Rattle.c_record.proofs.KeptLaws.{kept_good, held_gives}
 use Rattle.c_loading.specs.KeptLoading.{place_in}
 use Rattle.c_loading.proofs.BackLaws.{finish_after}
-use Rattle.c_loading.proofs.CallLaws.{left_err, finish_err, finish_ok}
+use Rattle.c_loading.proofs.CallLaws.{left_err, numbered_err, finish_err, finish_ok}
 use Rattle.c_loading.proofs.finish_kept.Goals as goal
 use Rattle.c_loading.proofs.finish_kept.Goals.{After-finish-call, After-from_residual-in_err-place}
 
@@ -33,6 +33,10 @@ pub returns-in_err-place-clause-lent_after : goal.returns-in_err-place-clause-le
 returns-in_err-place-clause-lent_after c =
     let z = finish_err (writer_in c.args.kept.now) c.args.lent.now _ (refused c) in
     (told (goal.at.returns-in_err-place-clause-kept_after c).After-finish-call).1 ∙ z.1 ∙ left_err _ _ _ _ c.from_residual-in_err-place.ensures.1 z.0
+
+pub returns-in_err-place-clause-fails : goal.returns-in_err-place-clause-fails
+returns-in_err-place-clause-fails c =
+    numbered_err _ _ c.from_residual-in_err-place.ensures.1 (finish_err (writer_in c.args.kept.now) c.args.lent.now _ (refused c)).0
 
 pub returns-in_err-place-clause-kept_after : goal.returns-in_err-place-clause-kept_after
 returns-in_err-place-clause-kept_after c =

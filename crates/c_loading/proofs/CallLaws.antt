@@ -12,7 +12,7 @@ use Rattle.layout.proofs.Cases.{by_cases}
 use Rattle.writer.specs.Loading.{mode_of, begin_refusal, begin_write, cue_refusal, finish_refusal, start_write, rest_write, mark_write}
 use Rattle.writer.specs.Calls.{Handed, reply_for, Outcome, outcome, blank, empty_of, held, after_cue, header_of, after_finish, begin_of, cue_of, finish_of}
 use Rattle.writer.specs.declared.Place.{Place}
-use Rattle.writer.specs.declared.Reply.{Reply}
+use Rattle.writer.specs.Calls.{Reply}
 use Rattle.c_opened.specs.declared.failure.Failure.{Failure}
 use Rattle.c_opened.specs.declared.failure.Failure.TheVariants.{NoRecord, NoKind}
 use Rattle.c_opened.specs.Failures.{failure_number}

@@ -24,11 +24,6 @@ use Rattle.c_loading.specs.KeptLoading.{call_in, kept_says, numbered, place_in, 
 
 -- what is lent, after a call that is refused and after one that is accepted
 module _ {A : Type 0} (n : ℕ) (before given : A) where
-  pub left_as : (n ≡ 0 → ⊥) → before ≡ given_after n before given
-  left_as h = rw (ne_eqb n 0 h)
-
-  pub given_as : n ≡ 0 → given ≡ given_after n before given
-  given_as z = rw (eq-eqb n 0 z)
 
 -- what a `?` hands on is the failure that was told
 pub told_on : {A : Type 0} (x : Result A Failure) (e : Failure) → IsErrAnd x (λ y. y ≡ e) → x ≡ Err e
@@ -57,8 +52,6 @@ says_in (Reply.OneWrite p) = refl
 says_in (Reply.ThreeWrites n p q r) = refl
 
 module _ (kept : List ℕ) (o : Outcome) where
-  pub none_says : (n : Failure) → (n ≡ NoRecord) × ((stream_in kept).setup.slot ≡ 0) → kept_says (Err n) ≡ on_kept kept o
-  none_says n h = rw (h.0, eq-eqb (stream_in kept).setup.slot 0 h.1)
 
   pub some_says : ((stream_in kept).setup.slot ≡ 0 → ⊥) → (x : Result Place Failure) → x ≡ place_in o.reply → kept_says x ≡ on_kept kept o
   some_says h x e = rw (ne_eqb (stream_in kept).setup.slot 0 h) (ap kept_says e ∙ says_in o.reply)

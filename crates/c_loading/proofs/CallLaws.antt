@@ -52,7 +52,6 @@ says_in (Reply.OneWrite p) = refl
 says_in (Reply.ThreeWrites n p q r) = refl
 
 module _ (kept : List ℕ) (o : Outcome) where
-
   pub some_says : ((stream_in kept).setup.slot ≡ 0 → ⊥) → (x : Result Place Failure) → x ≡ place_in o.reply → kept_says x ≡ on_kept kept o
   some_says h x e = rw (ne_eqb (stream_in kept).setup.slot 0 h) (ap kept_says e ∙ says_in o.reply)
 

@@ -15,7 +15,7 @@ use writer::{Place, Reply};
 // The room of a line: its word, three columns of the widest kind, the newline.
 const LINE_ROOM: usize = 4 + 3 * 21 + 1;
 
-// A line, at the start of its room.
+// A line, at the start of its room, with its length, since the code allocates nothing.
 #[derive(Clone, Copy)]
 pub struct ReportLine {
     bytes: [u8; LINE_ROOM],

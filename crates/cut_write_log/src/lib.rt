@@ -9,7 +9,7 @@ use layout::fields::inside;
 use layout_put::put_bytes;
 use writer::{MOST_WRITES, Place, Reply};
 
-// As many writes as a loading hands out.
+// As many writes as a loading hands out; in an array with their count, since the code allocates nothing.
 #[derive(Clone, Copy)]
 pub struct WriteLog {
     pub count: usize,

@@ -10,6 +10,6 @@ returns-then-k-bytes c = next_in _ _ _ _ (passed c.inside.ensures c.if-inside.tr
 pub returns-else-inside : goal.returns-else-inside
 returns-else-inside c =
     elim c.else-inside.branch [
-      else-inside-via-then-inside+else-k-bytes w ↦ next_done _ _ _ _ (omega arith)
-    | else-inside-via-else-inside w ↦ next_out _ _ _ _ (failed c.inside.ensures w.if-inside.false)
+      | else-inside-via-then-inside+else-k-bytes w ↦ next_done _ _ _ _ (omega arith)
+      | else-inside-via-else-inside w ↦ next_out _ _ _ _ (failed c.inside.ensures w.if-inside.false)
     ]

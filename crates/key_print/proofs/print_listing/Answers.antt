@@ -1,17 +1,10 @@
 use native.Mathlib.Omega.{arith}
-use mathlib.Core.Path.{ap, sym}
-use mathlib.Core.List.{flatten}
 use Rattle.key_listing.specs.MarkingKey.{listing}
 use Rattle.key_listing.proofs.LineLaws.{filled-inside, filled_prefix}
 use Rattle.key_listing.proofs.ListingSize.{listing-small}
 use Rattle.key_print.proofs.PortionLaws.{next_bytes, next_from, next-inside, all_printed, less_listed}
 use borrow.Author.Rules.{rules}
 use Rattle.key_print.proofs.print_listing.Goals as goal
-
-pub loop-start-init : goal.loop-start-init
-loop-start-init g c =
-    let e = c.start_listing-start.ensures.stage_value in
-    ((search rules, e), (sym (ap flatten e), omega arith))
 
 pub returns-then-n-eq0 : goal.returns-then-n-eq0
 returns-then-n-eq0 g c =

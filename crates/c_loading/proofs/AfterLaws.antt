@@ -1,4 +1,5 @@
 -- The record that the bytes hold after an accepted cue is the record that the call gives.
+use Rattle.std.specs.Prelude.{Option, Some, None}
 use Prim.Native.Nat.{ℕ, zero, suc, ◌+◌, ◌-◌, ◌<◌, ◌≤◌}
 use mathlib.Core.Path.{◌≡◌, refl, ap, sym, ◌∙◌}
 use mathlib.Core.Bool.{Bool, true, false}
@@ -16,7 +17,6 @@ use Rattle.writer.proofs.DueLaws.{passed_cue}
 use Rattle.writer.proofs.CueLaws.{insert-length}
 use Rattle.writer.proofs.GoodLaws.{cue_kept_lem}
 use Rattle.writer.specs.declared.Cue.{Cue}
-use Rattle.writer.specs.declared.LoopAt.{LoopAt}
 use Rattle.writer.specs.declared.HpsWriter.{HpsWriter}
 use Rattle.c_record.specs.Fields.{fields_of, writer_of}
 use Rattle.c_record.specs.declared.Fields.{Fields}
@@ -58,9 +58,9 @@ marks_good_lem n true f a b = lt-ltb 0 n (a refl)
 marks_good_lem n false true a b = b refl
 marks_good_lem n false false a b = refl
 
-loops_good : (l : LoopAt) (o : ℕ) → ((n : ℕ) → l ≡ LoopAt.At n → n ≤ o) → loops_within l o ≡ true
-loops_good LoopAt.Nowhere o h = refl
-loops_good (LoopAt.At n) o h = le-leb n o (h n refl)
+loops_good : (l : Option ℕ) (o : ℕ) → ((n : ℕ) → l ≡ Some n → n ≤ o) → loops_within l o ≡ true
+loops_good None o h = refl
+loops_good (Some n) o h = le-leb n o (h n refl)
 
 pub good_sensible : (w : HpsWriter) → Good w → sensible (fields_of w) ≡ true
 unfolding sensible places_good sums_good

@@ -1,4 +1,5 @@
 -- The record that bytes hold after it was put there is the record that was put.
+use Rattle.std.specs.Prelude.{Option, Some, None}
 use Prim.Native.Nat.{ℕ, zero, suc, ◌+◌, ◌%◌, ◌≤◌, ◌<◌}
 use mathlib.Core.Path.{◌≡◌, refl, sym, ap, ◌∙◌}
 use mathlib.Core.Bool.{Bool, true, false, not}
@@ -24,7 +25,6 @@ use Rattle.writer.proofs.GoodLaws.{empty_good, finish_good}
 use Rattle.writer.specs.declared.ChannelBlock.{ChannelBlock}
 use Rattle.writer.specs.declared.Cue.{Cue}
 use Rattle.writer.specs.declared.Looping.{Looping}
-use Rattle.writer.specs.declared.LoopAt.{LoopAt}
 use Rattle.c_record.specs.Fields.{fields_of, writer_of}
 use Rattle.c_record.specs.declared.Fields.{Fields}
 use Rattle.layout_number_or_zero.specs.NumberOrZero.{half_at, signed_at, word_at, long_at}
@@ -91,7 +91,7 @@ module _ {k : List ℕ} (off a b c d : ℕ) (fa : Long a) (fb : Long b) (fc : Lo
   unfolding sums_bytes
   sums_back x = four_back off a b c d fa fb fc fd x
 
-marks_parts : {k : List ℕ} (off : ℕ) (l : LoopAt) (m : Looping) (id : ℕ) (last finished : Bool) → At k off (marks_bytes l m id last finished)
+marks_parts : {k : List ℕ} (off : ℕ) (l : Option ℕ) (m : Looping) (id : ℕ) (last finished : Bool) → At k off (marks_bytes l m id last finished)
     → Pieces k off (be64 (loop_offset_number l) ∷ be32 (mode_number m) ∷ be32 id ∷ be32 (flag_number last) ∷ be32 (flag_number finished) ∷ [])
 unfolding marks_bytes flat_map
 marks_parts off l m id last finished a =
@@ -109,10 +109,10 @@ flag_back true = (omega arith, refl)
 flag_back false = (omega arith, refl)
 
 -- an offset in a slot
-loop-back : (l : LoopAt) (o : ℕ) → ((n : ℕ) → l ≡ LoopAt.At n → n ≤ o) → o ≤ slot_limit → Long (loop_offset_number l) × (loop_offset (loop_offset_number l) ≡ l)
+loop-back : (l : Option ℕ) (o : ℕ) → ((n : ℕ) → l ≡ Some n → n ≤ o) → o ≤ slot_limit → Long (loop_offset_number l) × (loop_offset (loop_offset_number l) ≡ l)
 unfolding loop_offset
-loop-back LoopAt.Nowhere o h s = (omega arith, refl)
-loop-back (LoopAt.At n) o h s =
+loop-back None o h s = (omega arith, refl)
+loop-back (Some n) o h s =
     let le = h n refl in
     (omega arith, rw (ne_eqb n 18446744073709551615 (far n (omega arith))))
   where

@@ -1,4 +1,5 @@
 -- The record that bytes stand for: its tests one by one, and the premise of the loading calls that follows from them.
+use Rattle.std.specs.Prelude.{Option, Some, None}
 use Prim.Native.Nat.{ℕ, ◌+◌, ◌<◌, ◌≤◌}
 use mathlib.Core.Path.{◌≡◌, refl, sym}
 use mathlib.Core.Bool.{Bool, true, false}
@@ -13,7 +14,6 @@ use Rattle.writer.specs.Calls.{blank, Good}
 use Rattle.writer.specs.Push.{loop_from, loops_here}
 use Rattle.writer.proofs.GoodLaws.{blank_good}
 use Rattle.writer.specs.declared.Looping.{Looping}
-use Rattle.writer.specs.declared.LoopAt.{LoopAt}
 use Rattle.std.proofs.Common.{Ok, Err}
 use Rattle.c_opened.specs.declared.failure.Failure.{Failure}
 use Rattle.c_opened.specs.declared.failure.Failure.TheVariants.{NoRecord}
@@ -54,13 +54,6 @@ held_gives f x y e =
     (λ t. let z : Ok y ≡ Err NoRecord = rw t at e in cc)
     (λ t. let z : Ok y ≡ Ok x = rw t at e in (cc, eqb-false f.setup.slot 0 t))
 
--- and where nothing is given there is none
-pub held_none : {A : Type 0} (f : Fields) (x : A) (n : Failure) → Err n ≡ where_held f x → (n ≡ NoRecord) × (f.setup.slot ≡ 0)
-held_none f x n e =
-    by_cases (eqb f.setup.slot 0)
-    (λ t. let z : Err n ≡ Err NoRecord = rw t at e in (cc, eqb-true f.setup.slot 0 t))
-    (λ t. let z : Err n ≡ Ok x = rw t at e in cc)
-
 -- ---- The premise of the loading calls
 
 marked-last : (n : ℕ) (l f : Bool) → marks_good n l f ≡ true → (l ≡ true → 0 < n) × (f ≡ true → l ≡ true)
@@ -69,7 +62,7 @@ marked-last n true f h = (λ e. ltb-true 0 n h, λ e. refl)
 marked-last n false true h = (λ e. apart (sym e), λ e. h)
 marked-last n false false h = (λ e. apart (sym e), λ e. apart (sym e))
 
-within-is : (l : LoopAt) (o : ℕ) → loops_within l o ≡ true → (n : ℕ) → l ≡ LoopAt.At n → n ≤ o
+within-is : (l : Option ℕ) (o : ℕ) → loops_within l o ≡ true → (n : ℕ) → l ≡ Some n → n ≤ o
 within-is l o h n e = leb-true n o (rw e at h)
 
 sensible_good : (s : Fields) (kept : List ℕ) → sensible s ≡ true → Good (writer_of (table_in kept cues_at s.count) s)
@@ -120,10 +113,10 @@ stream_few kept = (kept_good kept).few
 -- ---- The table
 
 -- where it does not count it changes no loop block
-pub loop-same : (m : Looping) (l : LoopAt) (offset : ℕ) (b asked : Bool) (end : ℕ) (last : Bool)
+pub loop-same : (m : Looping) (l : Option ℕ) (offset : ℕ) (b asked : Bool) (end : ℕ) (last : Bool)
     → loop_from l offset (loops_here m (held_in m l b) asked end last) ≡ loop_from l offset (loops_here m b asked end last)
 unfolding loops_here held_in
-loop-same m (LoopAt.At n) offset b asked end last = refl
-loop-same Looping.Disabled LoopAt.Nowhere offset b asked end last = refl
-loop-same Looping.Enabled LoopAt.Nowhere offset b asked end last = refl
-loop-same Looping.Auto LoopAt.Nowhere offset b asked end last = refl
+loop-same m (Some n) offset b asked end last = refl
+loop-same Looping.Disabled None offset b asked end last = refl
+loop-same Looping.Enabled None offset b asked end last = refl
+loop-same Looping.Auto None offset b asked end last = refl

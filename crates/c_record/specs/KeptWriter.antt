@@ -1,11 +1,11 @@
 -- The writer's record in lent bytes: the record that bytes stand for.
+use Rattle.std.specs.Prelude.{Option, Some, None}
 use Rattle.std.specs.Prelude.{ℕ, ◌+◌, ◌*◌, Bool, true, false, not, List, length, ltb, leb, eqb, Result, Ok, Err}
 use Rattle.layout.specs.Choice.{pick, ◌and◌}
 use Rattle.layout.specs.Refusals.{block_limit, slot_limit, cue_limit, length_limit}
 use Rattle.writer.specs.Loading.{by_mode, mode_of}
 use Rattle.writer.specs.Calls.{blank}
 use Rattle.writer.specs.declared.Looping.{Looping}
-use Rattle.writer.specs.declared.LoopAt.{LoopAt}
 use Rattle.writer.specs.declared.HpsWriter.{HpsWriter}
 use Rattle.writer_assign_cues.specs.Taking.{tallied}
 use Rattle.writer.specs.Push.{count_taken, cues_taken}
@@ -22,8 +22,8 @@ abbrev pub nowhere : ℕ
 nowhere = 18446744073709551615
 
 -- The loop block's offset by its number.
-unfoldable pub loop_offset : ℕ → LoopAt
-loop_offset n = pick (eqb n nowhere) LoopAt.Nowhere (LoopAt.At n)
+unfoldable pub loop_offset : ℕ → Option ℕ
+loop_offset n = pick (eqb n nowhere) None (Some n)
 
 -- The numbers of the record as they stand there.
 unfoldable pub fields_in : List ℕ → Fields
@@ -59,9 +59,9 @@ unfoldable pub marks_good : (blocks : ℕ) (last finished : Bool) → Bool
 marks_good blocks last finished = pick last (ltb 0 blocks) (not finished)
 
 -- Whether the loop block's offset is not beyond this one.
-abbrev pub loops_within : LoopAt → (offset : ℕ) → Bool
-loops_within LoopAt.Nowhere offset = true
-loops_within (LoopAt.At n) offset = leb n offset
+abbrev pub loops_within : Option ℕ → (offset : ℕ) → Bool
+loops_within None offset = true
+loops_within (Some n) offset = leb n offset
 
 -- Whether the numbers can be those of a record that a loading call gives.
 unfoldable pub sensible : Fields → Bool
@@ -91,6 +91,6 @@ taken_in kept from n end last =
     tallied (from + count_taken (table_in kept cues_at n) from n end last) (cues_taken (table_in kept cues_at n) from n end last)
 
 -- Whether the table has a Loop, as far as that counts: under Enabled, before there is a loop block.
-unfoldable pub held_in : Looping → LoopAt → (held : Bool) → Bool
-held_in m (LoopAt.At n) held = false
-held_in m LoopAt.Nowhere held = by_mode m false held false
+unfoldable pub held_in : Looping → Option ℕ → (held : Bool) → Bool
+held_in m (Some n) held = false
+held_in m None held = by_mode m false held false

@@ -18,7 +18,7 @@ use crate::{Fields, cues_in, side_in};
 use c_opened::failure::Failure;
 use layout::limits::{BLOCK_LIMIT, CUE_LIMIT, LENGTH_LIMIT, SLOT_LIMIT};
 use layout_number_or_zero::{long, word};
-use writer::{CueTable, HpsWriter, LoopAt, Looping, Setup, Stream};
+use writer::{CueTable, HpsWriter, Looping, Setup, Stream};
 use writer_assign_cues::{Taken, any_loop, put_taken, take};
 
 // No block of the stream is the loop block.
@@ -37,23 +37,23 @@ pub fn mode_of(number: u32) -> Result<Looping, Failure>
 }
 
 #[tactic(auto, unfolding(crate::specs::KeptWriter::loop_offset))]
-fn loop_of(number: u64) -> LoopAt
+fn loop_of(number: u64) -> Option<usize>
     ensures { result ≡ loop_offset number }
 {
     if number == NOWHERE {
-        LoopAt::Nowhere
+        None
     } else {
-        LoopAt::At(number as usize)
+        Some(number as usize)
     }
 }
 
 // Whether the loop block's offset is not beyond this one.
-fn loops_within(at: LoopAt, offset: usize) -> bool
+fn loops_within(at: Option<usize>, offset: usize) -> bool
     ensures { result ≡ loops_within at offset }
 {
     match at {
-        LoopAt::Nowhere => true,
-        LoopAt::At(n) => n <= offset,
+        None => true,
+        Some(n) => n <= offset,
     }
 }
 
@@ -211,7 +211,7 @@ pub fn held_kept(kept: &[u8], f: Fields) -> bool
     ensures { result ≡ held_in f.setup.mode f.stream.loopat (any_loop (slice 0 f.count (table_in kept.now cues_at f.count))) }
 {
     match (f.setup.mode, f.stream.loopat) {
-        (Looping::Enabled, LoopAt::Nowhere) => {
+        (Looping::Enabled, None) => {
             let cues = cues_in(kept, CUES_AT, f.count);
             any_loop(cues, f.count)
         }

@@ -1,4 +1,5 @@
 -- The record's numbers, put piece after piece.
+use Rattle.std.specs.Prelude.{Option, Some, None}
 use Prim.Native.Nat.{ℕ, ◌+◌, ◌≤◌}
 use mathlib.Core.Path.{◌≡◌, refl, ap, ◌∙◌}
 use mathlib.Core.Bool.{Bool, true, false}
@@ -13,7 +14,6 @@ use Rattle.layout.specs.Records.{be32}
 use Rattle.layout.proofs.Lengths.{be32-length}
 use Rattle.layout.proofs.PutLaws.{Put, put_then, put_at-length}
 use Rattle.writer.specs.declared.Looping.{Looping}
-use Rattle.writer.specs.declared.LoopAt.{LoopAt}
 use Rattle.c_record.specs.declared.Fields.{Fields}
 use Rattle.c_opened.specs.KeptReader.{be64, put_long}
 use Rattle.c_opened.proofs.LongLaws.{be64-length, long-put}
@@ -67,7 +67,7 @@ five : (a b c d e : ℕ) → be64 a ++ be32 b ++ be32 c ++ be32 d ++ be32 e ≡ 
 unfolding flat_map
 five a b c d e = simp (append_assoc, append-nil)
 
-pub marks_put : (k k₁ k₂ k₃ k₄ : List ℕ) {k₅ : List ℕ} (a b id d e : ℕ) (l : LoopAt) (m : Looping) (last finished : Bool) → left_at ≤ length k
+pub marks_put : (k k₁ k₂ k₃ k₄ : List ℕ) {k₅ : List ℕ} (a b id d e : ℕ) (l : Option ℕ) (m : Looping) (last finished : Bool) → left_at ≤ length k
     → a ≡ loop_offset_number l → k₁ ≡ put_long k 64 a → b ≡ mode_number m → k₂ ≡ put_at k₁ 72 (be32 b) → k₃ ≡ put_at k₂ 76 (be32 id)
     → d ≡ flag_number last → k₄ ≡ put_at k₃ 80 (be32 d) → e ≡ flag_number finished → k₅ ≡ put_at k₄ 84 (be32 e)
     → k₅ ≡ put_at k 64 (marks_bytes l m id last finished)
@@ -90,7 +90,7 @@ pub sums_length : (a b c d : ℕ) → length (sums_bytes a b c d) ≡ 32
 unfolding sums_bytes flat_map be64 be32
 sums_length a b c d = refl
 
-pub marks_length : (l : LoopAt) (m : Looping) (id : ℕ) (last finished : Bool) → length (marks_bytes l m id last finished) ≡ 24
+pub marks_length : (l : Option ℕ) (m : Looping) (id : ℕ) (last finished : Bool) → length (marks_bytes l m id last finished) ≡ 24
 unfolding marks_bytes flat_map be64 be32
 marks_length l m id last finished = refl
 

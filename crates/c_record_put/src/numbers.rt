@@ -12,17 +12,17 @@ use c_record::places::{
     NEXT_AT, OFFSET_AT, SLOT_AT, SUM_AT,
 };
 use layout_put::put_u32;
-use writer::{LoopAt, Stream};
+use writer::Stream;
 
 // No block of the stream is the loop block.
 const NOWHERE: u64 = 0xFFFF_FFFF_FFFF_FFFF;
 
-fn loop_number(at: LoopAt) -> u64
+fn loop_number(at: Option<usize>) -> u64
     ensures { result ≡ loop_offset_number at }
 {
     match at {
-        LoopAt::Nowhere => NOWHERE,
-        LoopAt::At(n) => n as u64,
+        None => NOWHERE,
+        Some(n) => n as u64,
     }
 }
 

@@ -9,6 +9,7 @@ pub(crate) const FRAMES: usize = 16;
 // Of a free frame nobody.
 pub(crate) type Holders = [Option<DecoderId>; FRAMES];
 
+// Not that of frame_pool, so that the rule is computed apart from it.
 pub(crate) fn other(who: DecoderId) -> DecoderId {
     match who {
         DecoderId::A => DecoderId::B,

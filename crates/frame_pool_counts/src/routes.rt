@@ -57,6 +57,7 @@ fn take_under(trial: Trial, who: DecoderId, n: usize) -> Trial {
 
 // A decoder's first frame from a number on, after 15 from 0 on.
 fn first_held(holders: &Holders, who: DecoderId, from: usize) -> Option<usize> {
+    // By number: the search goes on from 15 to 0.
     for i in 0..FRAMES {
         let at = (from % FRAMES + i) % FRAMES;
         if holders[at] == Some(who) {

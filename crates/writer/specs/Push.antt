@@ -1,5 +1,6 @@
 -- Push (document 01, "Loading"), by the numbers that its code works with: the cues that a block takes, the loop block, the next offset, and the stream
 -- after it. `push_of` in Calls and the plan of push's code are both made of these; its order and its sizes stand in Loading.
+use Rattle.std.specs.Prelude.{Option, Some, None}
 use Rattle.std.specs.Prelude.{ℕ, suc, ◌+◌, Bool, false, List, [], ◌∷◌, length, take, ltb, eqb}
 use Rattle.std.proofs.Math.Seq.{slice}
 use Rattle.layout.specs.Choice.{pick, ◌or◌}
@@ -8,8 +9,6 @@ use Rattle.writer.specs.Loading.{by_mode}
 use Rattle.writer.specs.declared.Looping.{Looping}
 use Rattle.writer.specs.declared.Cue.{Cue}
 use Rattle.writer.specs.declared.ChannelBlock.{ChannelBlock}
-use Rattle.writer.specs.declared.LoopAt.{LoopAt}
-use Rattle.writer.specs.declared.LoopAt.TheVariants.{Nowhere, At}
 use Rattle.writer.specs.declared.Stream.{Stream}
 
 -- ---- The cues that a block takes
@@ -36,28 +35,28 @@ unfoldable pub loops_here : Looping → (held asked : Bool) (end : ℕ) (last : 
 loops_here m held asked end last = by_mode m false (pick held asked (last or ltb 0 end)) asked
 
 -- "The first Loop cue makes its block the loop block ..; later Loops are dropped."
-abbrev pub or_at : LoopAt → LoopAt → LoopAt
-or_at Nowhere l = l
-or_at (At n) l = At n
+abbrev pub or_at : Option ℕ → Option ℕ → Option ℕ
+or_at None l = l
+or_at (Some n) l = Some n
 
 -- The loop block's offset after a block at this one.
-abbrev pub loop_from : LoopAt → (offset : ℕ) → (here : Bool) → LoopAt
-loop_from l o here = or_at l (pick here (At o) Nowhere)
+abbrev pub loop_from : Option ℕ → (offset : ℕ) → (here : Bool) → Option ℕ
+loop_from l o here = or_at l (pick here (Some o) None)
 
 -- "the loop block's, else 4,294,967,295"
-abbrev pub at_or_none : LoopAt → ℕ
-at_or_none Nowhere = end_block_offset
-at_or_none (At n) = n
+abbrev pub at_or_none : Option ℕ → ℕ
+at_or_none None = end_block_offset
+at_or_none (Some n) = n
 
 -- "Next offset is the following block's; in the last block the loop block's, else 4,294,967,295."
-abbrev pub next_offset : (last : Bool) → LoopAt → (following : ℕ) → ℕ
+abbrev pub next_offset : (last : Bool) → Option ℕ → (following : ℕ) → ℕ
 next_offset last l o = pick last (at_or_none l) o
 
 -- ---- The stream afterwards
 
 -- The stream after a block of this size: the cues are taken up to a place, so many of them points and ranges; it ends before this sample and leaves this
 -- loop block. The first block's sides are kept.
-unfoldable pub advanced : Stream → (to points end size : ℕ) → LoopAt → (left right : ChannelBlock) (last : Bool) → Stream
+unfoldable pub advanced : Stream → (to points end size : ℕ) → Option ℕ → (left right : ChannelBlock) (last : Bool) → Stream
 advanced s to k end size loopat l r last =
     record {
       next = to;

@@ -8,11 +8,11 @@ ghost use Rattle.layout.specs.Answers.{due_number};
 ghost use Rattle.layout.specs.Refusals.{cue_limit, start_limit};
 ghost use Rattle.layout.specs.Lists.{first_index};
 ghost use Rattle.layout.specs.Choice.{◌or◌};
-ghost use Rattle.writer.specs.Calls.{Good, cue_of, called};
+ghost use Rattle.writer.specs.Calls.{Good, cue_of, called, called_says};
 
 use layout::limits::{CUE_LIMIT, START_LIMIT};
 use layout::refusal::Refusal;
-use writer::{Called, Cue, CueKind, CueTable, HpsWriter, Reply};
+use writer::{Called, Cue, CueKind, CueTable, HpsWriter, Writes};
 
 // Cues are ordered by start, kind, range length, name: the order of their fields as they are declared.
 #[tactic(auto, using(crate::proofs::CueTableLaws::is_before))]
@@ -74,7 +74,7 @@ fn cue_due(blocks: usize, bad: bool, equal: bool, count: usize) -> Result<(), Re
 // Cue: it goes to its place in the table, unless an equal one is there.
 pub fn cue(w: HpsWriter, c: Cue) -> Called
     requires { Good w }
-    ensures value { result ≡ called (cue_of w c) }
+    ensures value { called_says result ≡ called (cue_of w c) }
     ensures good { Good result.writer }
 {
     let n = w.table.count;
@@ -83,13 +83,13 @@ pub fn cue(w: HpsWriter, c: Cue) -> Called
     let equal = holds(held, c);
     if let Err(refusal) = cue_due(w.stream.blocks, bad, equal, n) {
         return Called {
-            reply: Reply::Refused(refusal.into()),
+            answer: Err(refusal),
             writer: w,
         };
     }
     if equal {
         return Called {
-            reply: Reply::NoWrite,
+            answer: Ok(Writes::None),
             writer: w,
         };
     }
@@ -97,7 +97,7 @@ pub fn cue(w: HpsWriter, c: Cue) -> Called
     let cues = put_in(w.table.cues, n, place, c);
     let table = CueTable { cues, count: n + 1 };
     Called {
-        reply: Reply::NoWrite,
+        answer: Ok(Writes::None),
         writer: HpsWriter { table, ..w },
     }
 }

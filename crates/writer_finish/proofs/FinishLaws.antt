@@ -16,11 +16,12 @@ use Rattle.layout.proofs.Lengths.{file_header-length}
 use Rattle.layout.proofs.PutLaws.{Put, put_then, put_at_in}
 use Rattle.writer.specs.declared.ChannelBlock.{ChannelBlock}
 use Rattle.writer.specs.declared.HpsWriter.{HpsWriter}
-use Rattle.writer.specs.declared.Reply.TheVariants.{ThreeWrites}
 use Rattle.writer.specs.declared.Called.{Called}
 use Rattle.writer.specs.Loading.{finish_refusal, filled, second, header_for, header_writes, start_write, rest_write, mark_write}
 use Rattle.writer.specs.WritesAndCuttingRule.{handed}
-use Rattle.writer.specs.Calls.{Handed, refuses, header_of, after_finish, finish_of, called, Good}
+use Rattle.writer.specs.Calls.{Handed, refuses, header_of, after_finish, finish_of, called, called_says, Good}
+use Rattle.writer.specs.declared.Writes.{Writes}
+use Rattle.std.specs.Prelude.{Ok}
 use Rattle.writer.proofs.DueLaws.{passed_finish, is_refused}
 use Rattle.writer.proofs.GoodLaws.{finish_good}
 
@@ -102,10 +103,10 @@ module _ (w : HpsWriter) (lent : List ℕ) (g : Good w) where
     room = ltb-false (length lent) file_header_size (passed_finish _ _ _ _ (sym e)).no14
 
     abbrev Leaves : Called → List ℕ → Type 0
-    Leaves q l = (q ≡ called (finish_of w lent)) × ((l ≡ (finish_of w lent).lent) × Good q.writer)
+    Leaves q l = (called_says q ≡ called (finish_of w lent)) × ((l ≡ (finish_of w lent).lent) × Good q.writer)
 
     pub finish_accepted : (h l : List ℕ) (v : HpsWriter) → h ≡ header_of w → length h ≡ file_header_size → l ≡ handed (header_writes h) ++ drop file_header_size lent → v ≡ after_finish w
-        → Leaves (record { reply = ThreeWrites w.stream.offset (record { offset = 0; length = 15 }) (record { offset = 16; length = 112 }) (record { offset = 15; length = 1 }); writer = v }) l
+        → Leaves (record { answer = Ok (Writes.Three w.stream.offset (record { offset = 0; length = 15 }) (record { offset = 16; length = 112 }) (record { offset = 15; length = 1 })); writer = v }) l
     unfolding finish_of
     finish_accepted h l v eh size el ev =
         rw (← e, ← eh, start_15 h size, rest_112 h size, mark_1 h size, handed_128 h size, ev, el) (refl, (refl, finish_good w (length lent) g (sym e)))

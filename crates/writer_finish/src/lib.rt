@@ -4,7 +4,7 @@
 ghost use Rattle.std.specs.Prelude.{◌≡◌, ◌++◌, ◌≤◌, ◌<◌, ◌%◌, length, drop};
 ghost use Rattle.writer.specs.Loading.{finish_refusal, filled, second, header_for, header_writes};
 ghost use Rattle.writer.specs.WritesAndCuttingRule.{handed};
-ghost use Rattle.writer.specs.Calls.{Good, finish_of, called};
+ghost use Rattle.writer.specs.Calls.{Good, finish_of, called, called_says};
 ghost use Rattle.layout.specs.Answers.{due_number};
 ghost use Rattle.layout.specs.Records.{file_header_size};
 
@@ -13,7 +13,7 @@ use layout::refusal::Refusal;
 use layout::{Channel, DspFormat, no_channel};
 use layout_put::put_bytes;
 use layout_put_header::put_file_header;
-use writer::{Called, ChannelBlock, HpsWriter, Place, Reply};
+use writer::{Called, ChannelBlock, HpsWriter, Place, Writes};
 
 // The header's writes.
 const START: Place = Place {
@@ -116,21 +116,21 @@ fn hand_out(header: &[u8], lent: &mut [u8])
 // Finish: byte 15 comes last, so that the header counts only once it is whole.
 pub fn finish(w: HpsWriter, lent: &mut [u8]) -> Called
     requires { Good w }
-    ensures value { result ≡ called (finish_of w lent.old) }
+    ensures value { called_says result ≡ called (finish_of w lent.old) }
     ensures lent_after { lent.new ≡ (finish_of w lent.old).lent }
     ensures good { Good result.writer }
 {
     let stream = w.stream;
     if let Err(refusal) = finish_due(w.finished, stream.blocks, stream.last, lent.len()) {
         return Called {
-            reply: Reply::Refused(refusal.into()),
+            answer: Err(refusal),
             writer: w,
         };
     }
     let bytes = header(w.setup.channels, stream.sum, stream.left, stream.right);
     hand_out(&bytes, lent);
     Called {
-        reply: Reply::ThreeWrites(stream.offset, START, REST, MARK),
+        answer: Ok(Writes::Three(stream.offset, START, REST, MARK)),
         writer: HpsWriter {
             finished: true,
             ..w

@@ -21,10 +21,9 @@ use Rattle.writer.specs.Loading.{Push, push_args, data_in, points, any_loop, dat
 use Rattle.writer.specs.Loading.{push_order, push_refusal}
 use Rattle.writer.specs.Push.{count_taken, cues_taken, loop_from, loops_here, advanced}
 use Rattle.writer.specs.WritesAndCuttingRule.{handed}
-use Rattle.writer.specs.Calls.{called, sample_end, taken_of, end_for, state_in, loop_due, loop_after, next_for, with_stream, after_block, push_bytes, push_of, Good}
+use Rattle.writer.specs.Calls.{Reply, Replied, called, sample_end, taken_of, end_for, state_in, loop_due, loop_after, next_for, with_stream, after_block, push_bytes, push_of, Good}
 use Rattle.writer.specs.declared.ChannelBlock.{ChannelBlock}
 use Rattle.writer.specs.declared.HpsWriter.{HpsWriter}
-use Rattle.writer.specs.declared.Reply.TheVariants.{Refused, NoWrite, OneWrite}
 use Rattle.writer.specs.declared.Called.{Called}
 use Rattle.writer.proofs.DueLaws.{passed}
 use Rattle.writer.proofs.GoodLaws.{samples_few}
@@ -49,14 +48,14 @@ has_room w p lent size some h e =
     (omega arith, omega arith)
 
 module _ (w : HpsWriter) (p : Push) (lent : List ℕ) (n : ℕ) (is : n ≡ push_refusal (state_in w) (taken_of w p) p (length lent)) where
-  pub push_refused : (n ≡ 0 → ⊥) → (q : Called) → q ≡ record { reply = Refused n; writer = w }
+  pub push_refused : (n ≡ 0 → ⊥) → (q : Replied) → q ≡ record { reply = Reply.Refused n; writer = w }
       → (q ≡ called (push_of w p lent)) × (lent ≡ (push_of w p lent).lent)
   unfolding push_of
   push_refused h q e =
       let f : eqb (push_refusal (state_in w) (taken_of w p) p (length lent)) 0 ≡ false = ne_eqb _ 0 (λ z. h (is ∙ z)) in
       rw (f, e, is) (refl, refl)
 
-  pub push_nothing : n ≡ 0 → empty_push p ≡ true → (record { reply = NoWrite; writer = w } ≡ called (push_of w p lent)) × (lent ≡ (push_of w p lent).lent)
+  pub push_nothing : n ≡ 0 → empty_push p ≡ true → (◌≡◌ {A = Replied} (record { reply = Reply.NoWrite; writer = w }) (called (push_of w p lent))) × (lent ≡ (push_of w p lent).lent)
   unfolding push_of handed
   push_nothing z e =
       let f : eqb (push_refusal (state_in w) (taken_of w p) p (length lent)) 0 ≡ true = eq-eqb _ 0 (sym is ∙ z) in
@@ -64,7 +63,7 @@ module _ (w : HpsWriter) (p : Push) (lent : List ℕ) (n : ℕ) (is : n ≡ push
 
   pub push_accepted : n ≡ 0 → empty_push p ≡ false → (v : HpsWriter) (size : ℕ) (b : List ℕ) → v ≡ after_block w p → size ≡ block_size (taken_of w p) p → size ≤ length lent
       → b ≡ put_at lent 0 (push_bytes w p)
-      → (record { reply = OneWrite (record { offset = w.stream.offset; length = size }); writer = v } ≡ called (push_of w p lent)) × (b ≡ (push_of w p lent).lent)
+      → (◌≡◌ {A = Replied} (record { reply = Reply.OneWrite (record { offset = w.stream.offset; length = size }); writer = v }) (called (push_of w p lent))) × (b ≡ (push_of w p lent).lent)
   unfolding push_of handed push_bytes
   push_accepted z e v size b ev es h eb =
       let f : eqb (push_refusal (state_in w) (taken_of w p) p (length lent)) 0 ≡ true = eq-eqb _ 0 (sym is ∙ z) in

@@ -5,14 +5,14 @@ ghost use mathlib.Core.List.{flat_map};
 ghost use Rattle.std.specs.Prelude.{◌≡◌, ◌+◌, length};
 ghost use Rattle.layout.specs.Records.{padded};
 ghost use Rattle.layout.specs.Puts.{put_at};
-ghost use Rattle.writer.specs.Calls.{called, push_of, Good};
+ghost use Rattle.writer.specs.Calls.{called, called_says, push_of, Good};
 ghost use Rattle.writer.specs.Loading.{push_args, data_in};
 
 use layout::fields::inside;
 use layout::limits::BLOCK_HEADER_SIZE;
 use layout_put_block::{put_header, put_padded};
 use layout_sizes::align;
-use writer::{Called, ChannelBlock, HpsWriter, Place, Reply};
+use writer::{Called, ChannelBlock, HpsWriter, Place, Writes};
 use writer_assign_cues::{any_loop, put_taken, take};
 use writer_push_plan::{block_end, plan_push};
 
@@ -47,7 +47,7 @@ pub fn push(
     lent: &mut [u8],
 ) -> Called
     requires { Good w }
-    ensures value { result ≡ called (push_of w (push_args channels left right left_data.now right_data.now last) lent.old) }
+    ensures value { called_says result ≡ called (push_of w (push_args channels left right left_data.now right_data.now last) lent.old) }
     ensures lent_after { lent.new ≡ (push_of w (push_args channels left right left_data.now right_data.now last) lent.old).lent }
     ensures good { Good result.writer }
 {
@@ -75,13 +75,13 @@ pub fn push(
         Ok(Some(plan)) => plan,
         Ok(None) => {
             return Called {
-                reply: Reply::NoWrite,
+                answer: Ok(Writes::None),
                 writer: w,
             };
         }
         Err(refusal) => {
             return Called {
-                reply: Reply::Refused(refusal.into()),
+                answer: Err(refusal),
                 writer: w,
             };
         }
@@ -98,10 +98,10 @@ pub fn push(
     );
     put_data(lent, plan.start, channels, left_data, right_data);
     Called {
-        reply: Reply::OneWrite(Place {
+        answer: Ok(Writes::One(Place {
             offset: s.offset,
             length: plan.size,
-        }),
+        })),
         writer: HpsWriter {
             stream: plan.after,
             ..w

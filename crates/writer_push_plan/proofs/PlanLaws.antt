@@ -1,4 +1,5 @@
 -- For the proof of the plan: the loop block, the sizes, and what follows where no number is due.
+use Rattle.std.specs.Prelude.{Option, Some, None}
 use Prim.Native.Nat.{ℕ, ◌+◌, ◌-◌, ◌*◌, ◌<◌, ◌≤◌}
 use mathlib.Core.Path.{◌≡◌, refl, ap, sym, ◌∙◌}
 use mathlib.Core.Bool.{Bool, true, false, not}
@@ -18,8 +19,6 @@ use Rattle.layout.proofs.Lengths.{padded_size_above}
 use Rattle.writer.specs.Push.{loops_here, loop_from, next_offset, advanced}
 use Rattle.writer.specs.declared.Looping.{Looping}
 use Rattle.writer.specs.declared.Looping.TheVariants.{Disabled, Enabled, Auto}
-use Rattle.writer.specs.declared.LoopAt.{LoopAt}
-use Rattle.writer.specs.declared.LoopAt.TheVariants.{Nowhere, At}
 use Rattle.writer.specs.declared.ChannelBlock.{ChannelBlock}
 use Rattle.writer.proofs.GoodLaws.{short_length, looped-after}
 use Rattle.writer.specs.Loading.{data_size, second_context, push_order, state_due, no_addresses, blocks_due, rate_due, length_due, data_due, coefficients_due, early_due, room_due}
@@ -62,17 +61,6 @@ module _ (mode : Looping) (held asked : Bool) (end : ℕ) (last : Bool) where
     pub loops_past : held ≡ false → last ≡ false → ltb 0 end ≡ loops_here mode held asked end last
     unfolding loops_here
     loops_past h l = rw (m, h, l)
-
-module _ (loopat : LoopAt) (offset : ℕ) (due : Bool) where
-  pub stays_at : (n : ℕ) → loopat ≡ At n → loopat ≡ loop_from loopat offset due
-  stays_at n e = rw e
-
-  module _ (e : loopat ≡ Nowhere) where
-    pub starts-here : due ≡ true → At offset ≡ loop_from loopat offset due
-    starts-here h = rw (h, e)
-
-    pub starts_not : due ≡ false → Nowhere ≡ loop_from loopat offset due
-    starts_not h = rw (h, e)
 
 -- ---- Sizes
 
@@ -153,7 +141,7 @@ passing n blocks f g ch l r lb rb is z =
 
 -- ---- The loop block after a block of the stream
 
-pub loop_near : (u : Setup) (s : Stream) → Good (record_of u s) → (here : Bool) (l : LoopAt) → l ≡ loop_from s.loopat s.offset here → (n : ℕ) → l ≡ At n → n ≤ s.offset
+pub loop_near : (u : Setup) (s : Stream) → Good (record_of u s) → (here : Bool) (l : Option ℕ) → l ≡ loop_from s.loopat s.offset here → (n : ℕ) → l ≡ Some n → n ≤ s.offset
 loop_near u s g here l is n q = looped-after s.loopat here s.offset s.offset g.looped (omega arith) n (sym is ∙ q)
 
 -- ---- The plan
@@ -216,7 +204,7 @@ module _ (u : Setup) (s : Stream) (t : Taken) (held : Bool) (end ch : ℕ) (l r 
           plan_room h p e = e ∙ refused_plan m room-is h
 
           module _ (fits : m ≡ 0) (here : Bool) (loops : here ≡ loops_here u.mode held t.asked end last)
-              (loopat : LoopAt) (looped : loopat ≡ loop_from s.loopat s.offset here) where
+              (loopat : Option ℕ) (looped : loopat ≡ loop_from s.loopat s.offset here) where
             pub plan_made : (bytes start next : ℕ) (other : FrameContext) (after : Stream) → bytes ≡ data_size ch lb rb → start ≡ data_after t.points
                 → next ≡ next_offset last loopat (s.offset + size) → other ≡ second_context ch r
                 → after ≡ advanced s t.to t.points end size loopat l r last

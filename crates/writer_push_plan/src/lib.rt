@@ -15,7 +15,7 @@ use layout::limits::{BLOCK_HEADER_SIZE, CUE_POINT_SIZE, END_BLOCK_OFFSET, SLOT_L
 use layout::refusal::Refusal;
 use layout::{BlockHeader, FrameContext};
 use layout_sizes::{adpcm_samples, align};
-use writer::{ChannelBlock, LoopAt, Looping, Setup, Stream};
+use writer::{ChannelBlock, Looping, Setup, Stream};
 use writer_assign_cues::Taken;
 use writer_push_refusal::{early_due, no_addresses, room_due, state_due};
 
@@ -94,31 +94,22 @@ fn loop_due(mode: Looping, held: bool, asked: bool, end: u64, last: bool) -> boo
 }
 
 // The loop block's offset after a block at this one: the first one stays.
-fn loop_after(loopat: LoopAt, offset: usize, due: bool) -> LoopAt
+fn loop_after(loopat: Option<usize>, offset: usize, due: bool) -> Option<usize>
     ensures { result ≡ loop_from loopat offset due }
 {
-    match loopat {
-        LoopAt::At(_) => loopat,
-        LoopAt::Nowhere => {
-            if due {
-                LoopAt::At(offset)
-            } else {
-                LoopAt::Nowhere
-            }
-        }
-    }
+    loopat.or(due.then_some(offset))
 }
 
 // The next offset of a block that ends here.
-fn next_offset(last: bool, loopat: LoopAt, end: usize) -> u32
+fn next_offset(last: bool, loopat: Option<usize>, end: usize) -> u32
     requires end_bound { end < 2 ^ 32 }
-    requires by_index { (n : ℕ) → loopat ≡ LoopAt.At n → n < 2 ^ 32 }
+    requires by_index { (n : ℕ) → loopat ≡ Some n → n < 2 ^ 32 }
     ensures { result ≡ next_offset last loopat end }
 {
     if last {
         match loopat {
-            LoopAt::Nowhere => END_BLOCK_OFFSET,
-            LoopAt::At(n) => n as u32,
+            None => END_BLOCK_OFFSET,
+            Some(n) => n as u32,
         }
     } else {
         end as u32
@@ -138,7 +129,7 @@ fn advance(
     taken: Taken,
     end: u64,
     size: usize,
-    loopat: LoopAt,
+    loopat: Option<usize>,
     left: ChannelBlock,
     right: ChannelBlock,
     last: bool,

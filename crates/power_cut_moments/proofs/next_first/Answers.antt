@@ -12,7 +12,7 @@ pub loop-place-preserved : goal.loop-place-preserved
 loop-place-preserved c = (
   c.loop-place.invariant.0,
   next_more _ _ _ _ _ _ c.loop-place-test.true c.parted.ensures.part c.parted.ensures.rest c.if-left-part.false
-  ∙ c.loop-place.invariant.1,
+      ∙ c.loop-place.invariant.1,
 )
 
 pub returns : goal.returns

@@ -6,7 +6,7 @@ use Rattle.writer.proofs.begin.Goals as goal
 pub returns-in-Err-clause-value : goal.returns-in-Err-clause-value
 returns-in-Err-clause-value c =
     let a = c.args in
-    rw (begin_refused a.slot a.channels a.mode a.lent.now c.in-Err.refusal c.in-Err.ensures, c.into.ensures, c.blank.ensures)
+    rw (begin_refused a.slot a.channels a.mode a.lent.now c.in-Err.refusal c.in-Err.ensures, c.blank.ensures)
 
 pub returns-in-Err-clause-lent_after : goal.returns-in-Err-clause-lent_after
 returns-in-Err-clause-lent_after c =

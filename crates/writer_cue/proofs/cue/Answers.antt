@@ -5,7 +5,7 @@ use Rattle.writer_cue.proofs.cue.Goals as goal
 
 pub returns-in-Err-clause-value : goal.returns-in-Err-clause-value
 returns-in-Err-clause-value c =
-    rw (cue_refused c.args.w c.args.c c.requires c.is_bad-bad.ensures c.holds-equal.ensures c.in-Err.refusal c.in-Err.ensures, c.into.ensures)
+    rw (cue_refused c.args.w c.args.c c.requires c.is_bad-bad.ensures c.holds-equal.ensures c.in-Err.refusal c.in-Err.ensures)
 
 pub returns-then-equal-clause-value : goal.returns-then-equal-clause-value
 returns-then-equal-clause-value c =

@@ -6,7 +6,7 @@ use Rattle.writer_finish.proofs.finish.Goals as goal
 use Rattle.writer_finish.proofs.finish.Goals.{After-header-bytes}
 
 pub returns-in-Err-clause-value : goal.returns-in-Err-clause-value
-returns-in-Err-clause-value c = rw (finish_refused c.args.w c.args.lent.now c.requires c.in-Err.refusal c.in-Err.ensures, c.into.ensures)
+returns-in-Err-clause-value c = rw (finish_refused c.args.w c.args.lent.now c.requires c.in-Err.refusal c.in-Err.ensures)
 
 pub returns-in-Err-clause-lent_after : goal.returns-in-Err-clause-lent_after
 returns-in-Err-clause-lent_after c = rw (finish_refused c.args.w c.args.lent.now c.requires c.in-Err.refusal c.in-Err.ensures)

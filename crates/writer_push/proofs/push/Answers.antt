@@ -44,7 +44,7 @@ pub returns-in-Err : goal.returns-in-Err
 returns-in-Err c =
     let x = c.in-Err.refusal in
     let k = worked (goal.at.returns-in-Err c).After-plan_push-answer (Err x) c.in-Err.is in
-    let q = push_refused c.args.w (pushed (goal.at.returns-in-Err c).Start) c.args.lent.now (number_of x) (due-is k) (eqb-false _ 0 (not_zero x)) _ (rw c.into.ensures) in
+    let q = push_refused c.args.w (pushed (goal.at.returns-in-Err c).Start) c.args.lent.now (number_of x) (due-is k) (eqb-false _ 0 (not_zero x)) _ refl in
     record {
       value = q.0;
       lent_after = q.1;

@@ -13,10 +13,10 @@ returns-then-count-eq0-clause-value c =
     let h = c.if-kept-lt-OPENED_SIZE.false in
     let e = c.word-count.ensures in
     elim c.then-count-eq0.branch [
-      then-count-eq0-via-then-count-eq0 w ↦ none_counted _ _ _ h e w.if-count-eq0.true
+      | then-count-eq0-via-then-count-eq0 w ↦ none_counted _ _ _ h e w.if-count-eq0.true
       | then-count-eq0-via-else-count-eq0+then-count-gt2 w ↦ none_held _ _ _ (many-channels _ _ _ h e w.if-count-gt2.true)
       | then-count-eq0-via-else-count-eq0+else-count-gt2+then-blocks-gt-BLOCK_LIMIT w ↦
-        none_held _ _ _ (many_blocks _ _ _ h e w.if-count-gt2.false c.word-blocks.ensures w.if-blocks-gt-BLOCK_LIMIT.true)
+          none_held _ _ _ (many_blocks _ _ _ h e w.if-count-gt2.false c.word-blocks.ensures w.if-blocks-gt-BLOCK_LIMIT.true)
     ]
 
 pub returns-in_default-clause-value : goal.returns-in_default-clause-value

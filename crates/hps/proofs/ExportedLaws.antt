@@ -1,6 +1,6 @@
 -- The exported calls' answers, from what the calls below them return.
 use Prim.Native.Nat.{ℕ, suc, ◌≤◌, ◌<◌}
-use mathlib.Core.Path.{◌≡◌, refl, sym, ap, ◌∙◌}
+use mathlib.Core.Path.{◌≡◌, refl, ap}
 use mathlib.Core.Bool.{Bool, true, false}
 use mathlib.Core.List.{List}
 use native.Mathlib.Omega.{arith}
@@ -13,7 +13,6 @@ use borrow.Author.Tests.{lt-ltb, le-ltb, le-leb, eq-eqb, ne_eqb}
 use Rattle.layout.proofs.Cases.{by_cases}
 use Rattle.layout.specs.Choice.{pick}
 use Rattle.layout.specs.Puts.{put_at}
-use Rattle.writer.specs.Loading.{Answer, accepted, refused}
 use Rattle.c_loading.specs.KeptLoading.{KeptCall, no_call, on_kept, given_after}
 use Rattle.c_record.specs.KeptWriter.{stream_in}
 use Rattle.writer.specs.Calls.{Outcome}
@@ -24,7 +23,7 @@ use Rattle.key_listing.specs.MarkingKey.{listing_lines, lines_from}
 use Rattle.key_listing.specs.Filling.{FilledIs, lines_fitting}
 use Rattle.key_listing.specs.declared.Stage.{Stage}
 use Rattle.key_listing.specs.declared.listing.Line.{Line}
-use Rattle.hps.specs.Exported.{number_of, length_after, open_number, kept_after, on_record, BlockLent, block_lent, addresses_after, push_number}
+use Rattle.hps.specs.Exported.{open_number, kept_after, on_record, BlockLent, block_lent, addresses_after, push_number}
 
 -- ---- Opening
 

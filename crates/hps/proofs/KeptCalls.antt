@@ -2,7 +2,6 @@
 use Prim.Native.Nat.{ℕ, ◌+◌, ◌<◌}
 use mathlib.Core.Path.{◌≡◌, refl, sym, ap, ◌∙◌}
 use mathlib.Core.List.{List}
-use native.Mathlib.Omega.{arith}
 use lib.IntN.{ℤ}
 use lib.ListN.{length}
 use borrow.Author.Tests.{ne_eqb}
@@ -21,7 +20,7 @@ use Rattle.c_opened.specs.KeptReader.{part_in, reader_in, where_opened}
 use Rattle.c_opened.proofs.KeptReads.{opened_gives, opened_none}
 use Rattle.c_opened.proofs.PartLaws.{block_same, remaining_same, same_count}
 use Rattle.hps.specs.Exported.{on_record, block_number, BlockLent, block_lent, remaining_number, addresses_after}
-use Rattle.hps.proofs.ExportedLaws.{no_record, a_record, no_block, no_sum}
+use Rattle.hps.proofs.ExportedLaws.{no_record, a_record}
 use Rattle.layout.specs.Refusals.{block_limit}
 
 -- ---- The record

@@ -1,8 +1,7 @@
-use mathlib.Core.Path.{◌≡◌, refl, ap, ◌∙◌}
+use mathlib.Core.Path.{◌≡◌, ap, ◌∙◌}
 use Rattle.std.proofs.Common.{Ok, Some, None}
 use mir.Syntax.{w16}
 use mir.ValLaws.{to_z-of_z}
-use Rattle.reader.specs.OpeningAndReading.{block_read, BlockAnswer}
 use Rattle.reader_block.specs.BlockAnswers.{block_answer, block_position}
 use Rattle.c_opened.specs.KeptReader.{reader_in}
 use Rattle.hps.proofs.ExportedLaws.{no_block}

@@ -1,5 +1,4 @@
 use mathlib.Core.Path.{◌∙◌}
-use Rattle.reader.specs.OpeningAndReading.{data_remaining}
 use Rattle.c_opened.specs.KeptReader.{reader_in}
 use Rattle.hps.proofs.ExportedLaws.{no_sum}
 use Rattle.hps.proofs.KeptCalls.{none_counted, without, part-is, some_counted, with_it, same_sum, sum_refused, sum-given}

@@ -62,6 +62,7 @@ fn show_runs<W: Write>(
 {
     let total = j.total;
     let mut from: usize = 0;
+    // A while: a run ends where the listing changes.
     while from <= total {
         let next = run_end(slot, first, j, logged, from);
         print_run(to, earlier, text, from, next - 1, first);

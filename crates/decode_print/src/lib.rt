@@ -90,6 +90,7 @@ fn print_blocks<W: Write>(
 {
     let mut decoder = first;
     let mut length = from;
+    // A loop: the call tells when it ends.
     loop {
         let call = decode(s, r, channel, decoder, samples);
         let n = match call.answer {

@@ -4,21 +4,21 @@ use mathlib.Core.Path.{◌≡◌, refl, sym, ap, ◌∙◌}
 use mathlib.Core.Bool.{Bool, true, false}
 use mathlib.Core.List.{List}
 use native.Mathlib.Omega.{arith}
-use lib.ListN.{length}
+use lib.ListN.{length, take}
+use lib.Seq.{length-take-le}
+use Rattle.std.proofs.Common.{Option}
+use Rattle.std.proofs.lemmas.List.{take_all}
 use lib.Dec.{eqb}
 use borrow.Author.Tests.{lt-ltb, le-ltb, le-leb, eq-eqb, ne_eqb}
 use Rattle.layout.proofs.Cases.{by_cases}
 use Rattle.layout.specs.Choice.{pick}
 use Rattle.layout.specs.Puts.{put_at}
 use Rattle.writer.specs.Loading.{Answer, accepted, refused}
-use Rattle.c_loading.specs.KeptLoading.{no_call, on_kept, given_after}
-use Rattle.c_loading.specs.declared.KeptCall.{KeptCall}
+use Rattle.c_loading.specs.KeptLoading.{KeptCall, no_call, on_kept, given_after}
 use Rattle.c_record.specs.KeptWriter.{stream_in}
 use Rattle.writer.specs.Calls.{Outcome}
-use Rattle.writer_estimate.specs.EstimateAnswers.{estimate_reply}
-use Rattle.writer_estimate.specs.declared.EstimateReply.{EstimateReply}
 use Rattle.reader.specs.OpeningAndReading.{Opened, block_read, Remaining}
-use Rattle.c_opened.specs.KeptReader.{opened_bytes, opened_size}
+use Rattle.c_opened.specs.KeptReader.{opened_bytes, opened_parts, offsets_kept, opened_size}
 use Rattle.reader.specs.declared.HpsReader.{HpsReader}
 use Rattle.key_listing.specs.MarkingKey.{listing_lines, lines_from}
 use Rattle.key_listing.specs.Filling.{FilledIs, lines_fitting}
@@ -26,28 +26,14 @@ use Rattle.key_listing.specs.declared.Stage.{Stage}
 use Rattle.key_listing.specs.declared.listing.Line.{Line}
 use Rattle.hps.specs.Exported.{number_of, length_after, open_number, kept_after, on_record, BlockLent, block_lent, addresses_after, push_number}
 
--- ---- The estimate
-
-not_both : {A : Type 0} (m n : ℕ) → EstimateReply.Length m ≡ EstimateReply.Refused n → A
-not_both m n e = absurd (let z : ◌≡◌ {A = ℕ} 0 1 = cc in omega arith)
-
-pub estimate_refused : (a : Answer) (q : EstimateReply) (n : ℕ) → q ≡ estimate_reply a → q ≡ EstimateReply.Refused n → n ≡ number_of a
-estimate_refused (refused m) q n e f = cc
-estimate_refused (accepted m) q n e f = not_both m n (sym e ∙ f)
-
-pub estimate_left : (a : Answer) (q : EstimateReply) (n before : ℕ) → q ≡ estimate_reply a → q ≡ EstimateReply.Refused n → before ≡ length_after before a
-estimate_left (refused m) q n before e f = refl
-estimate_left (accepted m) q n before e f = not_both m n (sym e ∙ f)
-
-pub estimate_accepted : (a : Answer) (q : EstimateReply) (n : ℕ) → q ≡ estimate_reply a → q ≡ EstimateReply.Length n → 0 ≡ number_of a
-estimate_accepted (refused m) q n e f = not_both n m (sym f ∙ e)
-estimate_accepted (accepted m) q n e f = refl
-
-pub estimate_given : (a : Answer) (q : EstimateReply) (n before : ℕ) → q ≡ estimate_reply a → q ≡ EstimateReply.Length n → n ≡ length_after before a
-estimate_given (refused m) q n before e f = not_both n m (sym f ∙ e)
-estimate_given (accepted m) q n before e f = cc
-
 -- ---- Opening
+
+-- the record of the blocks' offsets alone
+pub blocks_parts : (s : List ℕ) (count n : ℕ) (start : Option ℕ) (os : List ℕ) → n ≤ length os → opened_parts s count (length (take n os)) start (take n os) ≡ opened_parts s count n start os
+unfolding opened_parts offsets_kept
+blocks_parts s count n start os h =
+    let l : length (take n os) ≡ n = length-take-le n os h in
+    rw (l, take_all n (take n os) (omega arith))
 
 module _ (kept s : List ℕ) (o : Opened) where
   module _ (h : length kept < opened_size) where
@@ -120,10 +106,10 @@ past q z false n e = e
 -- push's number, where the sides are long enough and where one is not
 module _ (kept : List ℕ) (o : Outcome) where
   pub long_sides : (short : Bool) → short ≡ false → (on_kept kept o).number ≡ push_number kept short o
-  long_sides short e = rw e (by_cases (eqb (stream_in kept).slot 0) (λ t. rw t) (λ t. rw t))
+  long_sides short e = rw e (by_cases (eqb (stream_in kept).setup.slot 0) (λ t. rw t) (λ t. rw t))
 
-  pub short_side : (short : Bool) → short ≡ true → {n : ℕ} → n ≡ pick (eqb (stream_in kept).slot 0) 254 251 → (n ≡ push_number kept short o) × (n ≡ 0 → ⊥)
-  short_side short e {n} f = (rw e f, by_cases (eqb (stream_in kept).slot 0) (λ t. not_0 253 (rw t at f)) (λ t. not_0 250 (rw t at f)))
+  pub short_side : (short : Bool) → short ≡ true → {n : ℕ} → n ≡ pick (eqb (stream_in kept).setup.slot 0) 254 251 → (n ≡ push_number kept short o) × (n ≡ 0 → ⊥)
+  short_side short e {n} f = (rw e f, by_cases (eqb (stream_in kept).setup.slot 0) (λ t. not_0 253 (rw t at f)) (λ t. not_0 250 (rw t at f)))
     where
       not_0 : (m : ℕ) → n ≡ suc m → n ≡ 0 → ⊥
       not_0 m g z = omega arith

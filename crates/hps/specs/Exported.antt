@@ -95,4 +95,4 @@ push_on kept ch l ld r rd last lent = push_of (writer_in kept) (push_args ch (si
 
 -- Its number: 254 where the bytes hold no record, then 251 where a side is too short, then push's own.
 abbrev pub push_number : (kept : List ℕ) (short : Bool) → Outcome → ℕ
-push_number kept short o = pick (eqb (stream_in kept).slot 0) 254 (pick short 251 (call_of o).number)
+push_number kept short o = pick (eqb (stream_in kept).setup.slot 0) 254 (pick short 251 (call_of o).number)

@@ -6,15 +6,15 @@ ghost use Rattle.writer.specs.Estimate.{estimate_of};
 ghost use Rattle.writer.specs.Calls.{begin_of, finish_of};
 ghost use Rattle.c_record.specs.KeptSides.{sides_short};
 ghost use Rattle.c_record.specs.KeptWriter.{writer_in};
-ghost use Rattle.c_loading.specs.KeptLoading.{call_of, where_room, on_kept, given_after, bytes_begun, bytes_cued, bytes_pushed, bytes_finished};
+ghost use Rattle.c_loading.specs.KeptLoading.{kept_says, call_of, where_room, on_kept, given_after, bytes_begun, bytes_cued, bytes_pushed, bytes_finished};
 ghost use Rattle.hps.specs.Exported.{number_of, cue_on, cue_number, push_on, push_number, length_after};
 
-use crate::NO_KIND;
 use c_loading::{begin_kept, cue_kept, finish_kept};
+use c_opened::failure::Failure;
 use c_push::{push_kept, without_side};
 use c_record::{kind_of, side_in, sides_short};
-use writer::Cue;
-use writer_estimate::{EstimateReply, estimate};
+use writer::{Cue, Place};
+use writer_estimate::estimate;
 
 // Begin: keeps the writer's record, and gives the write's offset and length. The mode is 0 Disabled, 1 Enabled, 2 Auto.
 #[unsafe(no_mangle)]
@@ -35,12 +35,30 @@ pub extern "C" fn hps_begin(
         × (kept.new ≡ given_after result kept.old (bytes_begun kept.old o))
         × (writer_in kept.new ≡ given_after result (writer_in kept.old) o.writer) }
 {
-    let call = begin_kept(slot, channels, mode, kept, lent);
-    if call.number == 0 {
-        *offset = call.offset;
-        *length = call.length;
+    match begin_kept(slot, channels, mode, kept, lent) {
+        Ok(place) => {
+            *offset = place.offset;
+            *length = place.length;
+            0
+        }
+        Err(failure) => failure.into(),
     }
-    call.number
+}
+
+fn cue_asked(
+    kept: &mut [u8],
+    start: u64,
+    kind: u32,
+    range: u64,
+    name: u32,
+) -> Result<Place, Failure>
+    ensures { let o = cue_on kept.old start kind range name in
+        ((kept_says result).number ≡ cue_number kept.old kind o)
+        × (kept.new ≡ given_after (kept_says result).number kept.old (bytes_cued kept.old o))
+        × (writer_in kept.new ≡ given_after (kept_says result).number (writer_in kept.old) o.writer) }
+{
+    let kind = kind_of(kind, range)?;
+    cue_kept(kept, Cue { start, kind, name })
 }
 
 // Cue: the kind is 0 a point, 1 a loop, 2 a range of this length.
@@ -51,12 +69,10 @@ pub extern "C" fn hps_cue(kept: &mut [u8], start: u64, kind: u32, range: u64, na
         × (kept.new ≡ given_after result kept.old (bytes_cued kept.old o))
         × (writer_in kept.new ≡ given_after result (writer_in kept.old) o.writer) }
 {
-    if kind > 2 {
-        return NO_KIND;
+    match cue_asked(kept, start, kind, range, name) {
+        Ok(_) => 0,
+        Err(failure) => failure.into(),
     }
-    let kind = kind_of(kind, range);
-    let call = cue_kept(kept, Cue { start, kind, name });
-    call.number
 }
 
 // Push: a side has 48 bytes: rate, length, 16 coefficients, gain, context. In mono the right side counts for nothing.
@@ -82,16 +98,18 @@ pub extern "C" fn hps_push(
         × (writer_in kept.new ≡ given_after result (writer_in kept.old) o.writer) }
 {
     if sides_short(channels, left, right) {
-        return without_side(kept);
+        return without_side(kept).into();
     }
     let l = side_in(left, 0);
     let r = side_in(right, 0);
-    let call = push_kept(kept, channels, l, r, left_data, right_data, last, lent);
-    if call.number == 0 {
-        *offset = call.offset;
-        *length = call.length;
+    match push_kept(kept, channels, l, r, left_data, right_data, last, lent) {
+        Ok(place) => {
+            *offset = place.offset;
+            *length = place.length;
+            0
+        }
+        Err(failure) => failure.into(),
     }
-    call.number
 }
 
 // Finish: the lent buffer's first 128 bytes are those of the writes to bytes 0-14, 16-127 and 15, in this order. Gives the finished length.
@@ -104,11 +122,13 @@ pub extern "C" fn hps_finish(kept: &mut [u8], lent: &mut [u8], finished: &mut us
         × (kept.new ≡ given_after result kept.old (bytes_finished kept.old))
         × (writer_in kept.new ≡ given_after result (writer_in kept.old) o.writer) }
 {
-    let call = finish_kept(kept, lent);
-    if call.number == 0 {
-        *finished = call.length;
+    match finish_kept(kept, lent) {
+        Ok(place) => {
+            *finished = place.length;
+            0
+        }
+        Err(failure) => failure.into(),
     }
-    call.number
 }
 
 // The estimate of a finished length.
@@ -123,10 +143,10 @@ pub extern "C" fn hps_estimate(
     ensures length_after { length.new ≡ length_after length.old (estimate_of channels lengths.now points) }
 {
     match estimate(lengths, channels, points) {
-        EstimateReply::Refused(number) => number,
-        EstimateReply::Length(n) => {
+        Ok(n) => {
             *length = n;
             0
         }
+        Err(refusal) => refusal.into(),
     }
 }

@@ -17,10 +17,9 @@ use c_opened::put::put_opened;
 use key_listing::listing::fill;
 use key_listing::start::start_listing;
 use layout::limits::BLOCK_LIMIT;
-use reader::answers::OpenReply;
-use reader_block::{BlockReply, read_block};
+use reader_block::read_block;
 use reader_open::open;
-use reader_remaining::{RemainingReply, data_remaining};
+use reader_remaining::data_remaining;
 
 // Opens a slot, and keeps the record in the lent bytes.
 #[unsafe(no_mangle)]
@@ -31,16 +30,12 @@ pub extern "C" fn hps_open(slot: &[u8], kept: &mut [u8]) -> u32
     if kept.len() < OPENED_SIZE {
         return NO_ROOM;
     }
-    let call = open(slot);
-    let reply = call.reply;
-    let r = call.reader;
-    let start = r.loop_start;
-    match reply {
-        OpenReply::Refused(number) => number,
-        OpenReply::Opened => {
-            put_opened(kept, slot, r.count, r.blocks, start, &call.reader.offsets);
+    match open(slot) {
+        Ok(r) => {
+            put_opened(kept, slot, r.count, r.loop_start, &r.offsets[..r.blocks]);
             0
         }
+        Err(refusal) => refusal.into(),
     }
 }
 
@@ -92,28 +87,24 @@ pub extern "C" fn hps_block(
         (block_read slot.now (reader_in kept.now) channel position.entry.now)) }
 {
     let at = *position;
-    let r = reader_in(kept, at, past(at));
-    if r.count == 0 {
+    let Ok(r) = reader_in(kept, at, past(at)) else {
         return NO_RECORD;
-    }
+    };
     let call = read_block(slot, r, channel, at);
     *position = call.position;
-    let reply = call.reply;
-    match reply {
-        BlockReply::Refused(number) => number,
-        BlockReply::End => END,
-        BlockReply::Block => {
-            let c = call.context;
-            *start = call.start;
-            *end = call.end;
-            *length = call.length;
+    match call.answer {
+        Ok(Some(block)) => {
+            let c = block.context;
+            *start = block.start;
+            *end = block.end;
+            *length = block.length;
             *context = c.predictor_and_scale;
-            let newer = c.last;
-            let older = c.oldest;
-            *last = newer;
-            *oldest = older;
+            *last = c.last;
+            *oldest = c.oldest;
             0
         }
+        Ok(None) => END,
+        Err(refusal) => refusal.into(),
     }
 }
 
@@ -128,16 +119,15 @@ pub extern "C" fn hps_remaining(
     ensures value { result ≡ on_record (reader_in kept.now) (remaining_number (data_remaining slot.now (reader_in kept.now) position)) }
     ensures addresses_after { addresses.new ≡ addresses_after (reader_in kept.now) addresses.old (data_remaining slot.now (reader_in kept.now) position) }
 {
-    let r = reader_in(kept, position, BLOCK_LIMIT);
-    if r.count == 0 {
+    let Ok(r) = reader_in(kept, position, BLOCK_LIMIT) else {
         return NO_RECORD;
-    }
+    };
     match data_remaining(slot, r, position) {
-        RemainingReply::Refused(number) => number,
-        RemainingReply::Addresses(n) => {
+        Ok(n) => {
             *addresses = n;
             0
         }
+        Err(refusal) => refusal.into(),
     }
 }
 

@@ -41,6 +41,7 @@ pub fn print_listing<W: Write>(to: &mut W, s: &[u8]) -> Result<usize, usize>
     let mut stage = start.stage;
     let mut length = 0;
     let mut out = zeros::<LARGE>();
+    // A loop: it ends with the listing, of which a portion tells only how much was filled and what comes next.
     loop {
         let filled = fill(s, start.reader, stage, &mut out);
         let n = filled.length;
@@ -122,6 +123,7 @@ fn same_lines(a: &[u8], r: HpsReader, here: Stage, b: &[u8], q: HpsReader, there
     };
     let mut out = zeros::<PORTION>();
     let mut other = zeros::<PORTION>();
+    // A loop: the two listings are filled by portions of their own, which end at other lines.
     loop {
         left = more(a, r, left, &mut out);
         right = more(b, q, right, &mut other);

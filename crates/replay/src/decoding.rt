@@ -2,14 +2,15 @@
 ghost use Rattle.std.specs.Prelude.{◌<◌, ◌≡◌, length};
 ghost use Rattle.reader.specs.OpeningAndReading.{Readable};
 
+use crate::answers::END;
 use crate::records::Records;
-use crate::slot::{is_context, whole_slot};
-use key_listing::start::start_listing;
-use layout::{FrameContext, least};
+use crate::slot::{is_context, opened, whole_slot};
+use layout::FrameContext;
+use layout::refusal::Refusal;
 use layout_number_or_zero::{half, signed, word};
 use layout_put::put_bytes;
 use reader::HpsReader;
-use reader_decode::{DecodeReply, Decoder, decode};
+use reader_decode::{Decoder, decode};
 use replay_input::{part, size};
 
 // More calls than a case has.
@@ -31,30 +32,29 @@ fn lent_places() -> [i16; PLACES]
 
 // 4 the position and 8 the context that go in.
 fn decoder_in(want: &[u8]) -> Decoder {
-    let context = FrameContext {
-        predictor_and_scale: half(want, 8),
-        last: signed(want, 10),
-        oldest: signed(want, 12),
-    };
     Decoder {
         position: size(want, 4),
-        context,
+        context: FrameContext {
+            predictor_and_scale: half(want, 8),
+            last: signed(want, 10),
+            oldest: signed(want, 12),
+        },
     }
 }
 
-// 18 the number of the refusal, 0 with samples, 4,294,967,295 at the end; 32 how many samples.
-fn is_reply(reply: DecodeReply, want: &[u8]) -> bool {
-    match reply {
-        DecodeReply::Refused(n) => n == word(want, 18),
-        DecodeReply::End => word(want, 18) == 4294967295,
-        DecodeReply::Samples(n) => (word(want, 18) == 0) & (n == size(want, 32)),
+// 18 the number; 32 how many samples.
+fn is_reply(answer: Result<Option<usize>, Refusal>, want: &[u8]) -> bool {
+    let number = word(want, 18);
+    match answer {
+        Ok(Some(n)) => number == 0 && n == size(want, 32),
+        Ok(None) => number == END,
+        Err(refusal) => number == u32::from(refusal),
     }
 }
 
 // 22 the position and 26 the context afterwards.
 fn is_decoder(decoder: Decoder, want: &[u8]) -> bool {
-    let context = decoder.context;
-    (decoder.position == size(want, 22)) & is_context(context, want, 26)
+    (decoder.position == size(want, 22)) & is_context(decoder.context, want, 26)
 }
 
 // What a lent place must have after a call: a sample, or beyond them what it had.
@@ -75,9 +75,7 @@ fn is_decoded(s: &[u8], r: HpsReader, want: &[u8], samples: &[u8], lent: &mut [i
     requires { Readable r }
 {
     let call = decode(s, r, size(want, 0), decoder_in(want), lent);
-    let reply = call.reply;
-    let decoder = call.decoder;
-    is_reply(reply, want) & is_decoder(decoder, want) & are_places(lent, samples)
+    is_reply(call.answer, want) & is_decoder(call.decoder, want) & are_places(lent, samples)
 }
 
 // 0 the channel, 14 how many places are lent.
@@ -85,7 +83,7 @@ fn is_answer(s: &[u8], r: HpsReader, want: &[u8], samples: &[u8]) -> bool
     requires { Readable r }
 {
     let mut lent = lent_places();
-    let most = least(size(want, 14), PLACES);
+    let most = size(want, 14).min(PLACES);
     is_decoded(s, r, want, samples, &mut lent[..most])
 }
 
@@ -115,6 +113,5 @@ pub(crate) fn decoding_case(body: &[u8]) -> Option<usize> {
     let n = size(body, 4);
     put_bytes(&mut whole, 0, part(body, 8, n));
     let slot = part(&whole, 0, size(body, 0));
-    let r = start_listing(slot).reader;
-    other_answer(slot, r, body.get(8 + n..).unwrap_or(&[]))
+    other_answer(slot, opened(slot), body.get(8 + n..).unwrap_or(&[]))
 }

@@ -3,11 +3,10 @@ ghost use Rattle.std.specs.Prelude.{◌≡◌, length, MatchOption};
 ghost use Rattle.writer.specs.Calls.{Good};
 
 use crate::records::Records;
-use layout::least;
 use layout::limits::{BLOCK_HEADER_SIZE, CUE_LIMIT, CUE_POINT_SIZE, MONO_LIMIT};
 use layout_number_or_zero::word;
 use layout_put::put_bytes;
-use replay_calls::make;
+use replay_calls::{Step, make};
 use replay_input::{part, size};
 use replay_server::is_applied;
 use writer::{HpsWriter, Looping, begin};
@@ -43,7 +42,7 @@ fn lend(step: &[u8], w: HpsWriter, slot: &mut [u8], lent: &mut [u8]) -> Option<H
     requires { Good w }
     ensures { MatchOption result Unit (λ left. Good left) }
 {
-    let most = least(size(step, 28), lent.len());
+    let most = size(step, 28).min(lent.len());
     run_call(step, w, slot, &mut lent[..most])
 }
 
@@ -59,20 +58,14 @@ fn run_step(step: &[u8], w: HpsWriter, slot: &mut [u8], lent: &mut [u8]) -> Opti
 {
     let n = size(step, 8);
     let bytes = part(step, 32, size(step, 12));
-    match word(step, 0) {
-        1 => {
+    match Step::try_from(word(step, 0)) {
+        Ok(Step::Put) => {
             put_bytes(slot, n, bytes);
             Some(w)
         }
-        2..=5 => lend(step, w, slot, lent),
-        6 => {
-            if has_bytes(slot, n, bytes) {
-                Some(w)
-            } else {
-                None
-            }
-        }
-        _ => None,
+        Ok(Step::Begin | Step::Cue | Step::Push | Step::Finish) => lend(step, w, slot, lent),
+        Ok(Step::Find) if has_bytes(slot, n, bytes) => Some(w),
+        Ok(Step::Find) | Err(_) => None,
     }
 }
 

@@ -14,6 +14,7 @@ use replay_input::input_room;
 use replay_input::report::report_case;
 use std::io::Write;
 
+mod answers; // answers.rt: how an answer is recorded
 mod decoding; // decoding.rt: the blocks of a slot decoded into lent places
 mod estimates; // estimates.rt: the estimate
 mod loading; // loading.rt: begin, cues, pushes and finish over a slot's earlier content

@@ -1,20 +1,26 @@
 // A slot's listing, which makes every cue call, and its block reads and addresses remaining, held to recorded answers.
 ghost use Rattle.std.specs.Prelude.{◌<◌, ◌≡◌, length};
 ghost use Rattle.reader.specs.OpeningAndReading.{Readable, block_read};
-ghost use Rattle.reader_block.specs.BlockAnswers.{block_call};
+ghost use Rattle.reader_block.specs.BlockAnswers.{block_answer};
+ghost use Rattle.reader_channel.specs.ChannelReading.{position_after};
+ghost use Rattle.layout.specs.Answers.{says};
 ghost use Rattle.layout.specs.Refusals.{block_limit};
 
+use crate::answers::{END, is_value};
 use crate::records::Records;
 use host_io::large_buffer;
 use key_listing::listing::fill;
 use key_listing::start::start_listing;
+use layout::refusal::Refusal;
 use layout::{Channel, DspFormat, FrameContext};
 use layout_number_or_zero::{half, long, signed, word};
 use layout_put::put_bytes;
-use reader::HpsReader;
-use reader_block::{BlockCall, BlockReply, block_data};
+use layout_read::channels::read_coefficients;
+use reader::{HpsReader, no_reader};
+use reader_block::{Block, BlockCall, block_data};
 use reader_channel::{read_at, read_next};
-use reader_remaining::{RemainingReply, data_remaining};
+use reader_open::open;
+use reader_remaining::data_remaining;
 use replay_input::{part, size};
 
 // A listing has fewer than 5,000,000 bytes, and each turn compares 65,000 or the rest.
@@ -52,11 +58,7 @@ fn is_listing(s: &[u8], want: &[u8]) -> bool {
 }
 
 fn is_format(format: DspFormat, n: u32) -> bool {
-    match format {
-        DspFormat::Adpcm => n == 0,
-        DspFormat::Pcm16 => n == 10,
-        DspFormat::Pcm8 => n == 25,
-    }
+    n == u32::from(u16::from(format))
 }
 
 pub(crate) fn is_context(context: FrameContext, want: &[u8], at: usize) -> bool
@@ -77,12 +79,9 @@ fn is_info(
 ) -> bool
     requires { at < 400 }
 {
-    for (i, coefficient) in coefficients.iter().enumerate() {
-        if *coefficient != signed(want, at + 2 * i) {
-            return false;
-        }
-    }
-    (gain == half(want, at + 32)) & is_context(context, want, at + 34)
+    (read_coefficients(want, at) == Ok(coefficients))
+        & (gain == half(want, at + 32))
+        & is_context(context, want, at + 34)
 }
 
 // 0 looping, 4 format, 8, 12 and 16 the loop, end and current address, 20 the rest.
@@ -101,43 +100,52 @@ fn is_channel(c: Channel, want: &[u8]) -> bool {
         & is_info(coefficients, c.gain, context, want, 20)
 }
 
-// 0 the number of the refusal, or 0; 4 the addresses.
-fn is_remaining(reply: RemainingReply, want: &[u8]) -> bool {
-    match reply {
-        RemainingReply::Refused(n) => n == word(want, 0),
-        RemainingReply::Addresses(n) => (word(want, 0) == 0) & (n == long(want, 4)),
+// What is recorded where no block is given.
+fn no_block() -> Block {
+    Block {
+        rate: 0,
+        format: DspFormat::Adpcm,
+        coefficients: [0; 16],
+        gain: 0,
+        length: 0,
+        context: FrameContext {
+            predictor_and_scale: 0,
+            last: 0,
+            oldest: 0,
+        },
+        start: 0,
+        end: 0,
     }
 }
 
-// 12 the number of the refusal, 0 with a block, 4,294,967,295 at the end.
-fn is_block_reply(reply: BlockReply, want: &[u8]) -> bool {
-    match reply {
-        BlockReply::Refused(n) => n == word(want, 12),
-        BlockReply::End => word(want, 12) == 4294967295,
-        BlockReply::Block => word(want, 12) == 0,
+// An answer's number, and its block.
+fn recorded(answer: Result<Option<Block>, Refusal>) -> (u32, Block) {
+    match answer {
+        Ok(Some(block)) => (0, block),
+        Ok(None) => (END, no_block()),
+        Err(refusal) => (u32::from(refusal), no_block()),
     }
 }
 
-// 16 by how much the position moved on, 20 rate, 24 format, 28 length, 36 the rest.
-fn is_block(q: BlockCall, position: usize, want: &[u8]) -> bool
+// 12 the number, 16 by how much the position moved on, 20 rate, 24 format, 28 length, 36 the rest.
+fn is_block(call: BlockCall, position: usize, want: &[u8]) -> bool
     requires { position < 4294967296 }
 {
-    let reply = q.reply;
-    let format = q.format;
-    let coefficients = q.coefficients;
-    let context = q.context;
-    is_block_reply(reply, want)
-        & (q.position == position + size(want, 16))
-        & (q.rate == word(want, 20))
-        & is_format(format, word(want, 24))
-        & (q.length == long(want, 28))
-        & is_info(coefficients, q.gain, context, want, 36)
+    let (number, block) = recorded(call.answer);
+    let coefficients = block.coefficients;
+    (number == word(want, 12))
+        & (call.position == position + size(want, 16))
+        & (block.rate == word(want, 20))
+        & is_format(block.format, word(want, 24))
+        & (block.length == long(want, 28))
+        & is_info(coefficients, block.gain, block.context, want, 36)
 }
 
 // The block at a position as a channel reader gives it: one that has moved on from the block before, where there is one, else one that is made there.
 fn reader_answer(s: &[u8], r: HpsReader, channel: usize, position: usize) -> BlockCall
     requires { Readable r }
-    ensures { result ≡ block_call position (block_read s.now r channel position) }
+    ensures answer { says result.answer ≡ block_answer (block_read s.now r channel position) }
+    ensures position_after { result.position ≡ position_after s.now r channel position }
 {
     if r.count <= channel {
         return read_at(s, r, channel, position);
@@ -149,6 +157,16 @@ fn reader_answer(s: &[u8], r: HpsReader, channel: usize, position: usize) -> Blo
         return read_at(s, r, channel, position);
     }
     read_next(s, r, channel, position - 1)
+}
+
+// The slot's record, of zeros where it does not open.
+pub(crate) fn opened(s: &[u8]) -> HpsReader
+    ensures { Readable result }
+{
+    match open(s) {
+        Ok(r) => r,
+        Err(_) => no_reader(),
+    }
 }
 
 // The addresses remaining and the block read, with its data.
@@ -166,9 +184,10 @@ fn is_answer(
         return false;
     }
     let left = data_remaining(s, r, position);
-    let q = reader_answer(s, r, channel, position);
-    is_remaining(left, want)
-        & is_block(q, position, want)
+    let call = reader_answer(s, r, channel, position);
+    // 0 the number of the refusal, or 0; 4 the addresses.
+    is_value(left, word(want, 0), long(want, 4))
+        & is_block(call, position, want)
         & (block_data(s, r, channel, position) == data)
 }
 
@@ -197,7 +216,7 @@ fn other_read(s: &[u8], body: &[u8]) -> Option<usize> {
     if body.is_empty() {
         return None;
     }
-    let r = start_listing(s).reader;
+    let r = opened(s);
     let channels = r.channels;
     let good = is_channel(channels[0], part(body, 0, CHANNEL))
         & is_channel(channels[1], part(body, CHANNEL, CHANNEL));

@@ -14,6 +14,7 @@ fn said_from(s: &[u8], from: usize) -> usize
     ensures { Said s.now from result }
 {
     let mut at = from;
+    // A while: the answer is a place, and the next line starts where next_line says.
     while at < s.len() {
         if word_count(line_at(s, at)) != 0 {
             return at;
@@ -73,6 +74,7 @@ pub fn start_of(s: &[u8], lent: usize) -> Start
 {
     let mut at: usize = 0;
     let mut length = lent;
+    // A while: the answer has the line's place, and the next one starts where next_line says.
     while at < s.len() {
         let line = line_at(s, at);
         let kind = kind_of(line);

@@ -92,6 +92,7 @@ pub fn wrong_line(s: &[u8]) -> Option<usize>
     };
     let mut number: usize = 1;
     let mut at: usize = 0;
+    // A while: the next line starts where next_line says, which the definition goes by.
     while at < s.len() {
         let Some(after) = after_line(line_at(s, at), due) else {
             return Some(number);

@@ -78,6 +78,7 @@ fn load_lines<W: Write>(
 {
     let mut st = start;
     let mut at = from;
+    // A while: a line's call looks at the lines after it, from the place that next_line says.
     while at < s.len() {
         let next = next_line(s, at);
         st = load_line(v, s, at, next, st, logged);

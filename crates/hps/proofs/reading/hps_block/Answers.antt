@@ -1,71 +1,69 @@
+use mathlib.Core.Path.{◌≡◌, refl, ap, ◌∙◌}
+use Rattle.std.proofs.Common.{Ok, Some, None}
 use mir.Syntax.{w16}
 use mir.ValLaws.{to_z-of_z}
-use Rattle.reader.specs.OpeningAndReading.{block_read}
+use Rattle.reader.specs.OpeningAndReading.{block_read, BlockAnswer}
+use Rattle.reader_block.specs.BlockAnswers.{block_answer, block_position}
 use Rattle.c_opened.specs.KeptReader.{reader_in}
-use Rattle.hps.specs.Exported.{BlockLent}
-use Rattle.hps.proofs.KeptCalls.{without, with_it, whole-block, block_without, block_refused, block-ended, block-given}
+use Rattle.hps.proofs.ExportedLaws.{no_block}
+use Rattle.hps.proofs.KeptCalls.{none_counted, without, part-is, with_it, same-block, told_as, block_refused, block-ended, block-given}
 use borrow.Author.Rules.{rules}
 use Rattle.hps.proofs.reading.hps_block.Goals as goal
 
-pub past-requires : goal.past-requires
-past-requires c = tt
-
-pub reader_in-r-requires : goal.reader_in-r-requires
-reader_in-r-requires c = tt
-
-pub returns-then-r-eq0 : goal.returns-then-r-eq0
-returns-then-r-eq0 c =
-    let a = c.args in
-    let e = c.reader_in-r.ensures.value in
-    let b : BlockLent =
-    record { position = a.position.now; start = a.start.now; end = a.end.now; addresses = a.length.now; scale = a.context.now; last = a.last.now; oldest = a.oldest.now } in
+pub returns-in_default : goal.returns-in_default
+returns-in_default c =
+    let e = c.in_default.ensures.value in
+    let k = c.args.kept.now in
     record {
-      value = without _ _ _ _ e _ c.if-r-eq0.true;
-      fact = block_without a.slot.now a.kept.now a.channel a.position.now _ _ c.past.ensures e b c.if-r-eq0.true;
+      value = without k _ _ _ e _;
+      fact = no_block (reader_in k) c.args.slot.now c.args.channel c.args.position.now _ (none_counted k _ _ _ e);
     }
 
-pub read_block-call-requires : goal.read_block-call-requires
-read_block-call-requires c = c.reader_in-r.ensures.readable
-
-pub returns-in-Refused : goal.returns-in-Refused
-returns-in-Refused c =
+pub returns-in-Err : goal.returns-in-Err
+returns-in-Err c =
     let a = c.args in
-    let e = c.reader_in-r.ensures.value in
+    let k = a.kept.now in
+    let e = c.in-Ok.ensures.value in
     let i = a.position.now in
-    let x = block_read a.slot.now (reader_in a.kept.now) a.channel i in
-    let w = whole-block a.slot.now a.kept.now a.channel i _ _ c.past.ensures e
-    c.read_block-call.ensures in
-    let g = block_refused i a.start.now a.end.now a.length.now a.context.now a.last.now a.oldest.now _ _ x w c.in-Refused.is in
+    let b = same-block a.slot.now k a.channel i _ _ c.past.ensures (part-is k _ _ _ e) in
+    let x = told_as c.in-Err.is c.read_block-call.ensures.answer ∙ ap block_answer b in
+    let p = c.read_block-call.ensures.position_after ∙ ap (block_position i) b in
+    let g = block_refused i a.start.now a.end.now a.length.now a.context.now a.last.now a.oldest.now c.read_block-call.result _ _ c.into.ensures x p in
     record {
-      value = with_it _ _ _ _ e _ c.if-r-eq0.false g.0;
+      value = with_it k _ _ _ e _ g.0;
       fact = g.1;
     }
 
-pub returns-in-End : goal.returns-in-End
-returns-in-End c =
+pub returns-in-Ok-None : goal.returns-in-Ok-None
+returns-in-Ok-None c =
     let a = c.args in
-    let e = c.reader_in-r.ensures.value in
+    let k = a.kept.now in
+    let e = c.in-Ok.ensures.value in
     let i = a.position.now in
-    let x = block_read a.slot.now (reader_in a.kept.now) a.channel i in
-    let w = whole-block a.slot.now a.kept.now a.channel i _ _ c.past.ensures e c.read_block-call.ensures in
-    let g = block-ended i a.start.now a.end.now a.length.now a.context.now a.last.now a.oldest.now _ x w c.in-End.is in
+    let b = same-block a.slot.now k a.channel i _ _ c.past.ensures (part-is k _ _ _ e) in
+    let y : c.read_block-call.result.answer ≡ Ok None = search rules in
+    let x = told_as y c.read_block-call.ensures.answer ∙ ap block_answer b in
+    let p = c.read_block-call.ensures.position_after ∙ ap (block_position i) b in
+    let g = block-ended i a.start.now a.end.now a.length.now a.context.now a.last.now a.oldest.now c.read_block-call.result _ x p in
     record {
-      value = with_it _ _ _ _ e _ c.if-r-eq0.false g.0;
+      value = with_it k _ _ _ e _ g.0;
       fact = g.1;
     }
 
-pub returns-in-Block : goal.returns-in-Block
-returns-in-Block c =
+pub returns-in-Ok-Some : goal.returns-in-Ok-Some
+returns-in-Ok-Some c =
     let a = c.args in
-    let e = c.reader_in-r.ensures.value in
+    let k = a.kept.now in
+    let e = c.in-Ok.ensures.value in
     let i = a.position.now in
-    let x = block_read a.slot.now (reader_in a.kept.now) a.channel i in
-    let w = whole-block a.slot.now a.kept.now a.channel i _ _ c.past.ensures e
-    c.read_block-call.ensures in
-    let q = c.read_block-call.result.context in
-    let g = block-given i a.start.now a.end.now a.length.now a.context.now a.last.now a.oldest.now _ (to_z-of_z w16 q.last (search rules))
-    (to_z-of_z w16 q.oldest (search rules)) x w c.in-Block.is in
+    let b = same-block a.slot.now k a.channel i _ _ c.past.ensures (part-is k _ _ _ e) in
+    let y : c.read_block-call.result.answer ≡ Ok (Some c.in-Ok-Some.block) = search rules in
+    let x = told_as y c.read_block-call.ensures.answer ∙ ap block_answer b in
+    let p = c.read_block-call.ensures.position_after ∙ ap (block_position i) b in
+    let q = c.in-Ok-Some.block in
+    let g = block-given i a.start.now a.end.now a.length.now a.context.now a.last.now a.oldest.now c.read_block-call.result _ q (to_z-of_z w16 q.context.last (search rules))
+    (to_z-of_z w16 q.context.oldest (search rules)) x p in
     record {
-      value = with_it _ _ _ _ e _ c.if-r-eq0.false g.0;
+      value = with_it k _ _ _ e _ g.0;
       fact = g.1;
     }

@@ -1,42 +1,37 @@
+use mathlib.Core.Path.{◌∙◌}
 use Rattle.reader.specs.OpeningAndReading.{data_remaining}
 use Rattle.c_opened.specs.KeptReader.{reader_in}
-use Rattle.hps.proofs.KeptCalls.{without, with_it, whole_sum, sum_without, sum_refused, sum-given}
+use Rattle.hps.proofs.ExportedLaws.{no_sum}
+use Rattle.hps.proofs.KeptCalls.{none_counted, without, part-is, some_counted, with_it, same_sum, sum_refused, sum-given}
 use Rattle.hps.proofs.reading.hps_remaining.Goals as goal
 
-pub reader_in-r-requires : goal.reader_in-r-requires
-reader_in-r-requires c = tt
-
-pub returns-then-r-eq0 : goal.returns-then-r-eq0
-returns-then-r-eq0 c =
-    let e = c.reader_in-r.ensures.value in
+pub returns-in_default : goal.returns-in_default
+returns-in_default c =
+    let e = c.in_default.ensures.value in
+    let k = c.args.kept.now in
     record {
-      value = without _ _ _ _ e _ c.if-r-eq0.true;
-      addresses_after = sum_without _ _ _ _ e _ c.if-r-eq0.true;
+      value = without k _ _ _ e _;
+      addresses_after = no_sum (reader_in k) _ _ (none_counted k _ _ _ e);
     }
 
-pub data_remaining-requires : goal.data_remaining-requires
-data_remaining-requires c = c.reader_in-r.ensures.readable
-
-pub returns-in-Refused : goal.returns-in-Refused
-returns-in-Refused c =
-    let e = c.reader_in-r.ensures.value in
+pub returns-in-Err : goal.returns-in-Err
+returns-in-Err c =
     let a = c.args in
-    let x = data_remaining a.slot.now (reader_in a.kept.now) a.position in
-    let w = whole_sum a.slot.now a.kept.now a.position _ e c.data_remaining.ensures in
-    let g = sum_refused a.slot.now a.kept.now a.position _ e a.addresses.now _ _ x w c.in-Refused.is in
+    let k = a.kept.now in
+    let e = c.in-Ok.ensures.value in
+    let g = sum_refused (reader_in k) a.addresses.now _ _ c.into.ensures (c.in-Err.ensures ∙ same_sum a.slot.now k a.position _ (part-is k _ _ _ e)) in
     record {
-      value = with_it _ _ _ _ e _ c.if-r-eq0.false g.0;
+      value = with_it k _ _ _ e _ g.0;
       addresses_after = g.1;
     }
 
-pub returns-in-Addresses : goal.returns-in-Addresses
-returns-in-Addresses c =
-    let e = c.reader_in-r.ensures.value in
+pub returns-in-Ok-data_remaining : goal.returns-in-Ok-data_remaining
+returns-in-Ok-data_remaining c =
     let a = c.args in
-    let x = data_remaining a.slot.now (reader_in a.kept.now) a.position in
-    let w = whole_sum a.slot.now a.kept.now a.position _ e c.data_remaining.ensures in
-    let g = sum-given a.slot.now a.kept.now a.position _ e a.addresses.now _ _ x c.if-r-eq0.false w c.in-Addresses.is in
+    let k = a.kept.now in
+    let e = c.in-Ok.ensures.value in
+    let g = sum-given (reader_in k) a.addresses.now _ _ (some_counted k _ _ _ e) (c.in-Ok-data_remaining.ensures ∙ same_sum a.slot.now k a.position _ (part-is k _ _ _ e)) in
     record {
-      value = with_it _ _ _ _ e _ c.if-r-eq0.false g.0;
+      value = with_it k _ _ _ e _ g.0;
       addresses_after = g.1;
     }

@@ -1,7 +1,7 @@
 -- A column, put from its last digit on.
 use Prim.Native.Nat.{ℕ, zero, suc, ◌+◌, ◌-◌, ◌/◌, ◌%◌, ◌<◌, ◌≤◌}
 use mathlib.Core.Path.{◌≡◌, refl, ap, sym, ◌∙◌}
-use mathlib.Core.List.{List, [], ◌∷◌, ◌++◌, append_assoc, append-nil}
+use mathlib.Core.List.{List, [], ◌∷◌, ◌++◌, append_assoc}
 use native.Mathlib.Omega.{arith}
 use lib.ListN.{length, take, drop, set, replicate, length-append, length-replicate, length-set}
 use lib.Seq.{length-take-le, take-append-le, take-take, drop_at}
@@ -11,7 +11,7 @@ use Rattle.layout.specs.Choice.{pick}
 use Rattle.layout.specs.Lists.{put}
 use Rattle.layout.specs.Puts.{put_at}
 use Rattle.layout.proofs.Cases.{by_cases}
-use Rattle.layout.proofs.PutLaws.{put-length, put-none, put_at_in, put_at_byte}
+use Rattle.layout.proofs.PutLaws.{put-length, put_at_in, put_at_byte}
 use Rattle.key_lines.specs.Lines.{column}
 
 pub column-length : (w n : ℕ) → length (column w n) ≡ w

@@ -7,10 +7,8 @@ use native.Mathlib.Omega.{arith}
 use native.Mathlib.Numerals.{add-one}
 use lib.ListN.{length, drop, get_or, drop_of_length-le, length-append}
 use lib.Seq.{drop-cons}
-use lib.Dec.{leb}
-use borrow.Author.Tests.{le-leb, lt-leb, leb-true}
+use borrow.Author.Tests.{le-leb, lt-leb}
 use Rattle.layout.specs.Puts.{put_at}
-use Rattle.layout.proofs.Cases.{by_cases}
 use Rattle.layout.proofs.PutLaws.{Put, put_then, kept}
 use Rattle.key_lines.specs.declared.Column.{Column}
 use Rattle.key_lines.specs.Lines.{column_bytes, columns_bytes, line, FieldPut, LinePut}

@@ -51,9 +51,6 @@ pub record Halving (c0 c1 : ℤ) (hs : List ℕ) (whole : Decoded) (after : List
   pub done : take i after ++ (halves_decoded c0 c1 c (drop i hs)).samples ≡ whole.samples
   pub ends : (halves_decoded c0 c1 c (drop i hs)).context ≡ whole.context
 
-pub halving_first : (c0 c1 : ℤ) (hs : List ℕ) (out : List ℤ) (c : FrameContext) → Halving c0 c1 hs (halves_decoded c0 c1 c hs) out 0 c
-halving_first c0 c1 hs out c = record { done = refl; ends = refl }
-
 module _ {c0 c1 : ℤ} {hs : List ℕ} {whole : Decoded} {after : List ℤ} {i : ℕ} {c : FrameContext} (d : Halving c0 c1 hs whole after i c) where
   pub halving_next : i < length hs → i < length after → {x y : ℤ} → x ≡ sample c0 c1 c.last c.oldest (get_or hs i 0) c.predictor_and_scale → y ≡ c.last
       → Halving c0 c1 hs whole (set after i x) (i + 1) (context_with c.predictor_and_scale x y)

@@ -82,6 +82,7 @@ fn decode_frames(
     ensures value { result ≡ (block_decoded coefficients.now context n block.now).context }
     ensures samples_after { samples.new ≡ (block_decoded coefficients.now context n block.now).samples ++ drop (adpcm_samples n) samples.old }
 {
+    // A while, since what is written through the parts of chunks_mut is not known after it.
     let mut left = n;
     // Where the frame starts, with its header byte.
     let mut first: usize = 0;

@@ -48,9 +48,6 @@ half_bound h p = by (ltb h 8)
     by true = omega arith
     by false = less_bound h p
 
-pub less_fits : (h : ℕ) → h < 256 → SFits w64 (pos h -ℤ pos 16)
-less_fits h p = fits_in w64 _ (let b = less_bound h p in omega arith)
-
 pub half_fits : (h : ℕ) → h < 256 → SFits w64 (signed_half h)
 half_fits h p = fits_in w64 _ (let b = half_bound h p in omega arith)
 
@@ -78,8 +75,3 @@ whole-fits {c0} {c1} {last} {oldest} f0 f1 fl fo h ps p =
     (let b = abs_product (signed_half h) (pos (scale ps)) (half_bound h p) (scale_bound ps) in
     let q = predicted_bound f0 f1 fl fo in
     omega (arith, abs_add (predicted c0 c1 last oldest) (signed_half h *ℤ pos (scale ps))))
-
--- A sample fits 16 bits.
-pub sample-fits : (c0 c1 last oldest : ℤ) (half ps : ℕ) → SFits w16 (sample c0 c1 last oldest half ps)
-unfolding sample
-sample-fits c0 c1 last oldest half ps = clamp_fits _

@@ -10,8 +10,7 @@ use Rattle.layout.proofs.Lengths.{be32-length}
 use Rattle.layout.proofs.PutLaws.{Put, put_then}
 use Rattle.c_opened.specs.KeptReader.{be64, put_long}
 use Rattle.c_opened.proofs.LongLaws.{be64-length, long-put}
-use Rattle.reader_cues.specs.declared.CueReply.{CueReply}
-use Rattle.c_cues.specs.CueBytes.{cue_kept, put_cue, reply_number, reply_put}
+use Rattle.c_cues.specs.CueBytes.{cue_kept, put_cue}
 
 -- ---- A cue
 
@@ -32,12 +31,3 @@ module _ (l : List ℕ) (at start kind name : ℕ) where
       let q = put_then p (be32 kind) (be32-length _) refl refl (omega arith) in
       let e : at + 12 ≡ at + (8 + 4) = refl in
       (put_then q (be32 name) (be32-length _) refl e (omega arith)).is
-
--- ---- What a cue call gave
-
-module _ (out : List ℕ) (at : ℕ) {q : CueReply} {l : List ℕ} where
-  pub loop-put : (start : ℕ) → q ≡ CueReply.Loop start → l ≡ put_cue out at start 1 0 → (0 ≡ reply_number q) × (l ≡ reply_put out at q)
-  loop-put start e f = rw e (refl, f)
-
-  pub point-put : (start name : ℕ) → q ≡ CueReply.Point start name → l ≡ put_cue out at start 0 name → (0 ≡ reply_number q) × (l ≡ reply_put out at q)
-  point-put start name e f = rw e (refl, f)

@@ -1,52 +1,25 @@
 -- As many cue calls as there is room for: the loop's invariant, and what each way out of it gives.
-use Rattle.std.proofs.Common.{Option}
+use Rattle.std.proofs.Common.{Option, Ok, Err}
+use Rattle.c_opened.specs.declared.failure.Failure.{Failure}
+use Rattle.c_opened.specs.Failures.{failure_number}
 use Prim.Native.Nat.{ℕ, zero, suc, ◌+◌, ◌*◌, ◌-◌, ◌/◌, ◌≤◌, ◌<◌}
 use mathlib.Core.Path.{◌≡◌, refl, sym, ap, ◌∙◌}
-use mathlib.Core.Bool.{Bool}
-use mathlib.Core.List.{List, [], ◌∷◌, ◌++◌, append_assoc, append-nil}
+use mathlib.Core.List.{List, [], ◌++◌, append_assoc, append-nil}
 use native.Mathlib.Omega.{arith}
 use native.Mathlib.Nat.{add_assoc, add-zero}
 use lib.ListN.{length}
-use lib.Dec.{ltb}
-use Rattle.layout.specs.Choice.{◌and◌}
 use Rattle.layout.specs.Puts.{put_at}
-use Rattle.layout.specs.Records.{cue_at, length_in}
-use Rattle.layout.proofs.Cases.{by_cases}
 use Rattle.layout.proofs.PutLaws.{Put, put_then, put_at-none}
 use Rattle.layout.specs.declared.DspFormat.{DspFormat}
 use Rattle.reader.specs.declared.HpsReader.{HpsReader}
 use Rattle.reader.specs.declared.CueIterator.{CueIterator}
-use Rattle.reader.specs.OpeningAndReading.{offsets_from}
-use Rattle.reader.specs.CuesReadBack.{CueAnswer, loop_here, point_of, base_after, cue_from, cue_step}
-use Rattle.reader.proofs.HeaderLaws.{header_cases}
+use Rattle.reader.specs.CuesReadBack.{CueAnswer, CueStep, cue_step}
 use Rattle.reader_cues.specs.declared.CueCall.{CueCall}
-use Rattle.reader_cues.specs.CueAnswers.{cue_reply, cue_call, PartsOf}
+use Rattle.reader_cues.specs.CueAnswers.{cue_says, cue_called, PartsOf}
 use Rattle.c_cues.specs.KeptCues.{CuesGiven, no_cue_given, ahead, one_cue, cues_given, filled_of, given_of}
 use Rattle.c_cues.specs.declared.CuesFilled.{CuesFilled}
-use Rattle.c_cues.specs.CueBytes.{cue_kept, reply_number, reply_put}
+use Rattle.c_cues.specs.CueBytes.{cue_kept, answered, answer_put}
 use Rattle.c_cues.proofs.CueBytesLaws.{cue-long, cue-put}
-
--- a refused call's number is 1
-module _ (s : List ℕ) (r : HpsReader) (c : CueIterator) where
-  from_one : (os : List ℕ) (i j b : ℕ) (d : Bool) (n : ℕ) → (cue_from s r c os i j b d).answer ≡ CueAnswer.refused n → n ≡ 1
-  unfolding cue_from
-  from_one [] i j b d n e = absurd (let z : ◌≡◌ {A = ℕ} 0 1 = cc in omega arith)
-  from_one (o ∷ os) i j b d n e =
-      by_cases (d and loop_here r.loop_start i)
-      (λ t. let k : CueAnswer.loop b ≡ CueAnswer.refused n = rw t at e in absurd (let z : ◌≡◌ {A = ℕ} 0 1 = cc in omega arith))
-      (λ t.
-      let k = rw t at e in
-      header_cases s o
-      (λ h. let x : CueAnswer.refused 1 ≡ CueAnswer.refused n = rw h at k in cc)
-      (λ v h.
-      let x = rw h at k in
-      by_cases (ltb j v.cues)
-      (λ u. let y : point_of b (cue_at s (o + 32 + 8 * j)) ≡ CueAnswer.refused n = rw u at x in absurd (let z : ◌≡◌ {A = ℕ} 0 1 = cc in omega arith))
-      (λ u. from_one os (i + 1) 0 (base_after r b (length_in v)) d n (rw u at x))))
-
-  pub refused_one : (n : ℕ) → (cue_step s r c).answer ≡ CueAnswer.refused n → n ≡ 1
-  unfolding cue_step
-  refused_one n e = from_one (offsets_from r c.block) c.block c.place c.base c.due n e
 
 -- ---- What calls give, with others ahead
 
@@ -129,27 +102,36 @@ module _ (s : List ℕ) (r : HpsReader) (from : CueIterator) (before out : List 
     room : at + 16 ≤ length out
     room = omega (arith, m.same)
 
-    more_of : (a : CueAnswer) → (cue_step s r c).answer ≡ a → {n : ℕ} {l : List ℕ} → n ≡ reply_number (cue_reply a) → l ≡ reply_put out at (cue_reply a) → n ≡ 0
+    more_of : (a : CueAnswer) → (cue_step s r c).answer ≡ a → {u : Unit {0}} {l : List ℕ} → Ok u ≡ answered a → l ≡ answer_put out at a
         → Filling s r from before l (cue_step s r c).after (cues + 1) (at + 16)
-    more_of (CueAnswer.refused k) e f g z = absurd (omega (arith, refused_one s r c k e))
-    more_of CueAnswer.ended e f g z = absurd (omega arith)
-    more_of (CueAnswer.loop b) e f g z = given b 1 0 (step ∙ rw e) (g ∙ cue-put out at b 1 0 room)
-    more_of (CueAnswer.point b k) e f g z = given b 0 k (step ∙ rw e) (g ∙ cue-put out at b 0 k room)
+    more_of (CueAnswer.refused k) e f g = cc
+    more_of CueAnswer.ended e f g = cc
+    more_of (CueAnswer.loop b) e f g = given b 1 0 (step ∙ rw e) (g ∙ cue-put out at b 1 0 room)
+    more_of (CueAnswer.point b k) e f g = given b 0 k (step ∙ rw e) (g ∙ cue-put out at b 0 k room)
 
-    last_of : (a : CueAnswer) → (cue_step s r c).answer ≡ a → {n : ℕ} {l : List ℕ} → n ≡ reply_number (cue_reply a) → l ≡ reply_put out at (cue_reply a) → (n ≡ 0 → ⊥)
-        → (filled_of n cues (cue_step s r c).after ≡ given_of (cues_given s r (length before / 16) from)) × (l ≡ put_at before 0 (cues_given s r (length before / 16) from).bytes)
-    last_of (CueAnswer.refused k) e f g z = let w = last k (cue_step s r c).after (step ∙ rw e) in (rw f w.0, g ∙ w.1)
-    last_of CueAnswer.ended e f g z = let w = last 255 (cue_step s r c).after (step ∙ rw e) in (rw f w.0, g ∙ w.1)
-    last_of (CueAnswer.loop b) e f g z = absurd (z f)
-    last_of (CueAnswer.point b k) e f g z = absurd (z f)
+    last_of : (a : CueAnswer) → (cue_step s r c).answer ≡ a → (x : Failure) {l : List ℕ} → Err x ≡ answered a → l ≡ answer_put out at a
+        → (filled_of (failure_number x) cues (cue_step s r c).after ≡ given_of (cues_given s r (length before / 16) from)) × (l ≡ put_at before 0 (cues_given s r (length before / 16) from).bytes)
+    last_of (CueAnswer.refused k) e x f g = let y : x ≡ Failure.Refused k = cc in let w = last k (cue_step s r c).after (step ∙ rw e) in (rw y w.0, g ∙ w.1)
+    last_of CueAnswer.ended e x f g = let y : x ≡ Failure.End = cc in let w = last 255 (cue_step s r c).after (step ∙ rw e) in (rw y w.0, g ∙ w.1)
+    last_of (CueAnswer.loop b) e x f g = cc
+    last_of (CueAnswer.point b k) e x f g = cc
 
-    module _ (q : CueCall) (e : q ≡ cue_call (cue_step s r c)) {n : ℕ} {l : List ℕ} (f : n ≡ reply_number q.reply) (g : l ≡ reply_put out at q.reply) where
-      pub filling-more : n ≡ 0 → Filling s r from before l q.cursor (cues + 1) (at + 16)
-      filling-more z = rw e (more_of (cue_step s r c).answer refl (rw e at f) (rw e at g) z)
+    module _ (q : CueCall) (e : cue_called q ≡ cue_step s r c) {l : List ℕ} (g : l ≡ answer_put out at (cue_says q.answer)) where
+      put-is : l ≡ answer_put out at (cue_step s r c).answer
+      put-is = g ∙ ap (λ (x : CueStep). answer_put out at x.answer) e
 
-      pub filling-last : (n ≡ 0 → ⊥)
-          → (filled_of n cues q.cursor ≡ given_of (cues_given s r (length before / 16) from)) × (l ≡ put_at before 0 (cues_given s r (length before / 16) from).bytes)
-      filling-last z = rw e (last_of (cue_step s r c).answer refl (rw e at f) (rw e at g) z)
+      answer-is : answered (cue_says q.answer) ≡ answered (cue_step s r c).answer
+      answer-is = ap (λ (x : CueStep). answered x.answer) e
+
+      after-is : q.cursor ≡ (cue_step s r c).after
+      after-is = ap (λ (x : CueStep). x.after) e
+
+      pub filling-more : {u : Unit {0}} → Ok u ≡ answered (cue_says q.answer) → Filling s r from before l q.cursor (cues + 1) (at + 16)
+      filling-more f = rw after-is (more_of (cue_step s r c).answer refl (f ∙ answer-is) put-is)
+
+      pub filling-last : (x : Failure) → Err x ≡ answered (cue_says q.answer)
+          → (filled_of (failure_number x) cues q.cursor ≡ given_of (cues_given s r (length before / 16) from)) × (l ≡ put_at before 0 (cues_given s r (length before / 16) from).bytes)
+      filling-last x f = rw after-is (last_of (cue_step s r c).answer refl x (f ∙ answer-is) put-is)
 
 pub room-more : {before out l : List ℕ} {cues at : ℕ} → Room before out cues at → 16 ≤ length before - at → length l ≡ length out → Room before l (cues + 1) (at + 16)
 room-more m h e = let f = m.sixteens in let s = m.same in record { same = e ∙ s; fits = omega arith; sixteens = omega arith }
@@ -165,14 +147,15 @@ module _ (s os : List ℕ) (blocks : ℕ) (start : Option ℕ) (f : DspFormat) (
   pub all_end : length out - at < 16 → {x : CuesFilled} → x ≡ filled_of 0 cues c → (r : HpsReader) → PartsOf r os blocks start f → Filled s r from before out x
   all_end h e r o = let w = no_room s r from before out c cues at m (p r o) (omega (arith, m.same)) in (e ∙ w.0, w.1)
 
-  module _ (h : 16 ≤ length out - at) (q : CueCall) (e : (r : HpsReader) → PartsOf r os blocks start f → q ≡ cue_call (cue_step s r c)) {n : ℕ} {l : List ℕ} (g : n ≡ reply_number q.reply)
-      (k : l ≡ reply_put out at q.reply) where
+  module _ (h : 16 ≤ length out - at) (q : CueCall) (e : (r : HpsReader) → PartsOf r os blocks start f → cue_called q ≡ cue_step s r c) {l : List ℕ}
+      (k : l ≡ answer_put out at (cue_says q.answer)) where
     room-left : 16 ≤ length before - at
     room-left = omega (arith, m.same)
 
-    pub all_more : n ≡ 0 → length l ≡ length out
+    pub all_more : {u : Unit {0}} → Ok u ≡ answered (cue_says q.answer) → length l ≡ length out
         → Room before l (cues + 1) (at + 16) × ((r : HpsReader) → PartsOf r os blocks start f → Filling s r from before l q.cursor (cues + 1) (at + 16))
-    all_more z i = (room-more m room-left i, λ r o. filling-more s r from before out c cues at m (p r o) room-left q (e r o) g k z)
+    all_more z i = (room-more m room-left i, λ r o. filling-more s r from before out c cues at m (p r o) room-left q (e r o) k z)
 
-    pub all-last : (n ≡ 0 → ⊥) → {x : CuesFilled} → x ≡ filled_of n cues q.cursor → (r : HpsReader) → PartsOf r os blocks start f → Filled s r from before l x
-    all-last z i r o = let w = filling-last s r from before out c cues at m (p r o) room-left q (e r o) g k z in (i ∙ w.0, w.1)
+    pub all-last : (n : Failure) → Err n ≡ answered (cue_says q.answer) → {x : CuesFilled} → x ≡ filled_of (failure_number n) cues q.cursor
+        → (r : HpsReader) → PartsOf r os blocks start f → Filled s r from before l x
+    all-last n z i r o = let w = filling-last s r from before out c cues at m (p r o) room-left q (e r o) k n z in (i ∙ w.0, w.1)

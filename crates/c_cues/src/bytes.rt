@@ -1,11 +1,13 @@
 // What a cue call gave, put into lent bytes.
 ghost use Rattle.std.specs.Prelude.{◌≡◌, ◌+◌, ◌<◌, ◌^◌};
-ghost use Rattle.c_cues.specs.CueBytes.{put_cue, reply_number, reply_put};
+ghost use Rattle.reader_cues.specs.CueAnswers.{cue_says};
+ghost use Rattle.c_cues.specs.CueBytes.{put_cue, answered, answer_put};
 
-use c_opened::END;
+use c_opened::failure::Failure;
 use c_opened::fields::put_long;
+use layout::refusal::Refusal;
 use layout_put::put_u32;
-use reader_cues::CueReply;
+use reader_cues::ReadCue;
 
 // A cue in 16 bytes: its start, 0 for a point or 1 for the loop, and its name.
 fn put_cue(out: &mut [u8], at: usize, start: u64, kind: u32, name: u32)
@@ -17,22 +19,20 @@ fn put_cue(out: &mut [u8], at: usize, start: u64, kind: u32, name: u32)
     put_u32(out, at + 12, name);
 }
 
-// The bytes of a cue that a call gave; 0, or the number or end that it gave.
-pub fn put_reply(reply: CueReply, out: &mut [u8], at: usize) -> u32
+// The bytes of the cue that a call gave, if it gave one.
+pub fn put_answer(
+    answer: Result<Option<ReadCue>, Refusal>,
+    out: &mut [u8],
+    at: usize,
+) -> Result<(), Failure>
     requires { at + 16 < 2 ^ 64 }
-    ensures value { result ≡ reply_number reply }
-    ensures out_after { out.new ≡ reply_put out.old at reply }
+    ensures value { result ≡ answered (cue_says answer) }
+    ensures out_after { out.new ≡ answer_put out.old at (cue_says answer) }
 {
-    match reply {
-        CueReply::Refused(number) => number,
-        CueReply::End => END,
-        CueReply::Loop(start) => {
-            put_cue(out, at, start, 1, 0);
-            0
-        }
-        CueReply::Point(start, name) => {
-            put_cue(out, at, start, 0, name);
-            0
-        }
+    match answer? {
+        Some(ReadCue::Loop(start)) => put_cue(out, at, start, 1, 0),
+        Some(ReadCue::Point(start, name)) => put_cue(out, at, start, 0, name),
+        None => return Err(Failure::End),
     }
+    Ok(())
 }

@@ -8,7 +8,7 @@ ghost use Rattle.reader.specs.CuesReadBack.{cursor};
 ghost use Rattle.reader_cues.specs.CueAnswers.{PartsOf};
 ghost use Rattle.c_cues.specs.KeptCues.{cursor_in, CursorBack, put_cursor, filled_of, cues_given, given_of, CuesLent, number_after, cues_number, gives_cues, cues_lent};
 
-use crate::bytes::put_reply;
+use crate::bytes::put_answer;
 use c_opened::fields::put_long;
 use c_opened::opened::reader_in;
 use c_opened::{END, NO_RECORD, NO_ROOM};
@@ -99,9 +99,8 @@ fn fill_cues(
     let mut place = from.place;
     let mut base = from.base;
     let mut due = from.due;
-    let mut cues: usize = 0;
-    let mut at: usize = 0;
-    while CUE_SIZE <= out.len() - at {
+    let room = out.len() / CUE_SIZE;
+    for cues in 0..room {
         let c = CueIterator {
             block,
             place,
@@ -109,20 +108,16 @@ fn fill_cues(
             due,
         };
         let call = cue_from(s, offsets, blocks, start, format, c);
-        let reply = call.reply;
         let after = call.cursor;
         block = after.block;
         place = after.place;
         base = after.base;
         due = after.due;
-        let number = put_reply(reply, out, at);
-        if number != 0 {
-            return filled(number, cues, block, place, base, due);
+        if let Err(failure) = put_answer(call.answer, out, CUE_SIZE * cues) {
+            return filled(failure.into(), cues, block, place, base, due);
         }
-        at += CUE_SIZE;
-        cues += 1;
     }
-    filled(0, cues, block, place, base, due)
+    filled(0, room, block, place, base, due)
 }
 
 // The number of calls of which the last gave this one, after so many cues: a refusal that comes after cues is left to the next call.
@@ -160,10 +155,9 @@ pub fn cue_calls(
     if cursor.len() < CURSOR_SIZE {
         return NO_ROOM;
     }
-    let r = reader_in(kept, 0, BLOCK_LIMIT);
-    if r.count == 0 {
+    let Ok(r) = reader_in(kept, 0, BLOCK_LIMIT) else {
         return NO_RECORD;
-    }
+    };
     if out.len() < CUE_SIZE {
         return 14;
     }

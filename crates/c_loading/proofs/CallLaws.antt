@@ -12,7 +12,7 @@ use Rattle.layout.proofs.Cases.{by_cases}
 use Rattle.writer.specs.Loading.{mode_of, begin_refusal, begin_write, cue_refusal, finish_refusal, start_write, rest_write, mark_write}
 use Rattle.writer.specs.Calls.{Handed, reply_for, Outcome, outcome, blank, empty_of, held, after_cue, header_of, after_finish, begin_of, cue_of, finish_of}
 use Rattle.writer.specs.declared.Place.{Place}
-use Rattle.writer.specs.declared.Reply.{Reply}
+use Rattle.writer.specs.Calls.{Reply}
 use Rattle.c_opened.specs.declared.failure.Failure.{Failure}
 use Rattle.c_opened.specs.declared.failure.Failure.TheVariants.{NoRecord, NoKind}
 use Rattle.c_opened.specs.Failures.{failure_number}
@@ -20,15 +20,10 @@ use Rattle.writer.specs.declared.Looping.{Looping}
 use Rattle.writer.specs.declared.Cue.{Cue}
 use Rattle.writer.specs.declared.HpsWriter.{HpsWriter}
 use Rattle.c_record.specs.KeptWriter.{stream_in}
-use Rattle.c_loading.specs.KeptLoading.{call_in, kept_says, place_in, on_kept, given_after}
+use Rattle.c_loading.specs.KeptLoading.{call_in, kept_says, numbered, place_in, on_kept, given_after}
 
 -- what is lent, after a call that is refused and after one that is accepted
 module _ {A : Type 0} (n : ℕ) (before given : A) where
-  pub left_as : (n ≡ 0 → ⊥) → before ≡ given_after n before given
-  left_as h = rw (ne_eqb n 0 h)
-
-  pub given_as : n ≡ 0 → given ≡ given_after n before given
-  given_as z = rw (eq-eqb n 0 z)
 
 -- what a `?` hands on is the failure that was told
 pub told_on : {A : Type 0} (x : Result A Failure) (e : Failure) → IsErrAnd x (λ y. y ≡ e) → x ≡ Err e
@@ -38,6 +33,9 @@ told_on (Err y) e h = ap Err h
 -- and with it all is left
 pub left_err : {A : Type 0} (x : Result Place Failure) (e : Failure) (before given : A) → IsErrAnd x (λ y. y ≡ e) → (failure_number e ≡ 0 → ⊥) → before ≡ given_after (kept_says x).number before given
 left_err x e before given h n = rw (told_on x e h, ne_eqb (failure_number e) 0 n)
+
+pub numbered_err : (x : Result Place Failure) (e : Failure) → IsErrAnd x (λ y. y ≡ e) → (failure_number e ≡ 0 → ⊥) → numbered x
+numbered_err x e h n = rw (told_on x e h) n
 
 -- a mode that there is
 pub mode_gives : (n : ℕ) (m : Looping) → Ok m ≡ where_kind n (mode_of n) → m ≡ mode_of n
@@ -54,8 +52,6 @@ says_in (Reply.OneWrite p) = refl
 says_in (Reply.ThreeWrites n p q r) = refl
 
 module _ (kept : List ℕ) (o : Outcome) where
-  pub none_says : (n : Failure) → (n ≡ NoRecord) × ((stream_in kept).setup.slot ≡ 0) → kept_says (Err n) ≡ on_kept kept o
-  none_says n h = rw (h.0, eq-eqb (stream_in kept).setup.slot 0 h.1)
 
   pub some_says : ((stream_in kept).setup.slot ≡ 0 → ⊥) → (x : Result Place Failure) → x ≡ place_in o.reply → kept_says x ≡ on_kept kept o
   some_says h x e = rw (ne_eqb (stream_in kept).setup.slot 0 h) (ap kept_says e ∙ says_in o.reply)

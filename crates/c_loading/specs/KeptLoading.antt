@@ -1,5 +1,5 @@
 -- What the loading calls on a record in lent bytes give.
-use Rattle.std.specs.Prelude.{ℕ, List, length, ltb, eqb, Result, Ok, Err}
+use Rattle.std.specs.Prelude.{ℕ, ◌≡◌, List, length, ltb, eqb, Result, Ok, Err}
 use Rattle.layout.specs.Choice.{pick}
 use Rattle.layout.specs.Puts.{put_at}
 use Rattle.layout.specs.Records.{be32}
@@ -8,8 +8,7 @@ use Rattle.c_record.specs.Fields.{fields_of}
 use Rattle.c_record.specs.KeptWriter.{stream_in}
 use Rattle.c_record_put.specs.KeptRecord.{record_bytes, pushed_bytes}
 use Rattle.c_record_put.specs.KeptTable.{table_put}
-use Rattle.writer.specs.declared.Reply.{Reply}
-use Rattle.writer.specs.declared.Reply.TheVariants.{Refused, NoWrite, OneWrite, ThreeWrites}
+use Rattle.writer.specs.Calls.{Reply}
 use Rattle.writer.specs.declared.Place.{Place}
 use Rattle.c_opened.specs.declared.failure.Failure.{Failure}
 use Rattle.c_opened.specs.Failures.{failure_number}
@@ -27,22 +26,27 @@ no_call n = record { number = n; offset = 0; length = 0 }
 
 -- What a reply comes to: the refusal's number, 0 where the call is accepted; the place of its one write, or the finished length.
 abbrev pub call_in : Reply → KeptCall
-call_in (Refused n) = no_call n
-call_in NoWrite = no_call 0
-call_in (OneWrite p) = record { number = 0; offset = p.offset; length = p.length }
-call_in (ThreeWrites n p q r) = record { number = 0; offset = 0; length = n }
+call_in (Reply.Refused n) = no_call n
+call_in Reply.NoWrite = no_call 0
+call_in (Reply.OneWrite p) = record { number = 0; offset = p.offset; length = p.length }
+call_in (Reply.ThreeWrites n p q r) = record { number = 0; offset = 0; length = n }
 
 -- What a call's result says.
 abbrev pub kept_says : Result Place Failure → KeptCall
 kept_says (Ok p) = record { number = 0; offset = p.offset; length = p.length }
 kept_says (Err e) = no_call (failure_number e)
 
+-- A call that gives no place has a number.
+abbrev pub numbered : Result Place Failure → Type 0
+numbered (Ok p) = Unit {0}
+numbered (Err e) = failure_number e ≡ 0 → ⊥
+
 -- The place of a reply's one write, or the finished length.
 abbrev pub place_in : Reply → Result Place Failure
-place_in (Refused n) = Err (Failure.Refused n)
-place_in NoWrite = Ok (record { offset = 0; length = 0 })
-place_in (OneWrite p) = Ok p
-place_in (ThreeWrites n p q r) = Ok (record { offset = 0; length = n })
+place_in (Reply.Refused n) = Err (Failure.Refused n)
+place_in Reply.NoWrite = Ok (record { offset = 0; length = 0 })
+place_in (Reply.OneWrite p) = Ok p
+place_in (Reply.ThreeWrites n p q r) = Ok (record { offset = 0; length = n })
 
 abbrev pub call_of : Outcome → KeptCall
 call_of o = call_in o.reply
@@ -63,10 +67,10 @@ given_after n before x = pick (eqb n 0) x before
 
 -- By whether a reply has writes.
 abbrev pub where_written : {A : Type 0} → Reply → A → A → A
-where_written (Refused n) x y = y
-where_written NoWrite x y = y
-where_written (OneWrite p) x y = x
-where_written (ThreeWrites n p q r) x y = x
+where_written (Reply.Refused n) x y = y
+where_written Reply.NoWrite x y = y
+where_written (Reply.OneWrite p) x y = x
+where_written (Reply.ThreeWrites n p q r) x y = x
 
 -- Begin puts the record's numbers and sides; its table is empty.
 abbrev pub bytes_begun : (kept : List ℕ) → Outcome → List ℕ

@@ -3,9 +3,9 @@
 
 ghost use Rattle.std.specs.Prelude.{◌≡◌};
 ghost use Rattle.writer.specs.Loading.{mode_of};
-ghost use Rattle.writer.specs.Calls.{begin_of, cue_of, finish_of};
+ghost use Rattle.writer.specs.Calls.{reply_says, begin_of, cue_of, finish_of};
 ghost use Rattle.c_record.specs.KeptWriter.{writer_in};
-ghost use Rattle.c_loading.specs.KeptLoading.{kept_says, place_in, call_of, where_room, on_kept, given_after, bytes_begun, bytes_cued, bytes_finished};
+ghost use Rattle.c_loading.specs.KeptLoading.{kept_says, numbered, place_in, call_of, where_room, on_kept, given_after, bytes_begun, bytes_cued, bytes_finished};
 
 use c_opened::failure::Failure;
 use c_record::Fields;
@@ -14,26 +14,26 @@ use c_record::places::LOADER_SIZE;
 use c_record_put::numbers::{put_finished, put_numbers};
 use c_record_put::put_sides;
 use c_record_put::table::put_table;
-use writer::{Cue, Place, Reply, begin};
+use layout::refusal::Refusal;
+use writer::{Cue, Place, Writes, begin};
 use writer_cue::cue;
 use writer_finish::finish;
 
 // What an accepted reply hands out: the place of its one write, or as the length the finished one.
-fn place_in(reply: Reply) -> Result<Place, Failure>
-    ensures { result ≡ place_in reply }
+fn place_in(answer: Result<Writes, Refusal>) -> Result<Place, Failure>
+    ensures { result ≡ place_in (reply_says answer) }
 {
-    match reply {
-        Reply::Refused(number) => Err(Failure::Refused(number)),
-        Reply::NoWrite => Ok(Place {
+    Ok(match answer? {
+        Writes::None => Place {
             offset: 0,
             length: 0,
-        }),
-        Reply::OneWrite(place) => Ok(place),
-        Reply::ThreeWrites(finished, _, _, _) => Ok(Place {
+        },
+        Writes::One(place) => place,
+        Writes::Three(finished, _, _, _) => Place {
             offset: 0,
             length: finished,
-        }),
-    }
+        },
+    })
 }
 
 // Begin: the record is kept in the lent bytes, if they are enough for it. The mode is 0 Disabled, 1 Enabled, 2 Auto.
@@ -45,6 +45,7 @@ pub fn begin_kept(
     lent: &mut [u8],
 ) -> Result<Place, Failure>
     ensures value { kept_says result ≡ where_room kept.old mode (call_of (begin_of slot channels (mode_of mode) lent.old)) }
+    ensures fails { numbered result }
     ensures lent_after { lent.new ≡ given_after (kept_says result).number lent.old (begin_of slot channels (mode_of mode) lent.old).lent }
     ensures kept_after { kept.new ≡ given_after (kept_says result).number kept.old (bytes_begun kept.old (begin_of slot channels (mode_of mode) lent.old)) }
     ensures kept_after_2 { writer_in kept.new ≡ given_after (kept_says result).number (writer_in kept.old) (begin_of slot channels (mode_of mode) lent.old).writer }
@@ -54,7 +55,7 @@ pub fn begin_kept(
     }
     let looping = mode_of(mode)?;
     let call = begin(slot, channels, looping, lent);
-    let place = place_in(call.reply)?;
+    let place = place_in(call.answer)?;
     let f = Fields::from(call.writer);
     put_numbers(kept, f);
     put_sides(kept, f.stream.left, f.stream.right);
@@ -69,7 +70,7 @@ pub fn cue_kept(kept: &mut [u8], c: Cue) -> Result<Place, Failure>
 {
     let w = writer_in(kept)?;
     let call = cue(w, c);
-    let place = place_in(call.reply)?;
+    let place = place_in(call.answer)?;
     put_table(kept, &call.writer.table);
     Ok(place)
 }
@@ -77,13 +78,14 @@ pub fn cue_kept(kept: &mut [u8], c: Cue) -> Result<Place, Failure>
 // Finish: gives the finished length; its three writes' bytes lie in the lent buffer one after the other.
 pub fn finish_kept(kept: &mut [u8], lent: &mut [u8]) -> Result<Place, Failure>
     ensures value { kept_says result ≡ on_kept kept.old (finish_of (writer_in kept.old) lent.old) }
+    ensures fails { numbered result }
     ensures lent_after { lent.new ≡ given_after (kept_says result).number lent.old (finish_of (writer_in kept.old) lent.old).lent }
     ensures kept_after { kept.new ≡ given_after (kept_says result).number kept.old (bytes_finished kept.old) }
     ensures kept_after_2 { writer_in kept.new ≡ given_after (kept_says result).number (writer_in kept.old) (finish_of (writer_in kept.old) lent.old).writer }
 {
     let w = writer_in(kept)?;
     let call = finish(w, lent);
-    let place = place_in(call.reply)?;
+    let place = place_in(call.answer)?;
     put_finished(kept);
     Ok(place)
 }

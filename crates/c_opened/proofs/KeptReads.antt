@@ -19,6 +19,7 @@ use Rattle.reader.specs.ReaderAnswers.{no_reader}
 use Rattle.reader.specs.declared.HpsReader.{HpsReader}
 use Rattle.layout_number_or_zero.specs.NumberOrZero.{word_at}
 use Rattle.layout_number_or_zero.proofs.NumberLaws.{word_in}
+use Rattle.c_opened.specs.declared.failure.Failure.{Failure}
 use Rattle.c_opened.specs.declared.failure.Failure.TheVariants.{NoRecord}
 use Rattle.c_opened.specs.KeptReader.{loop_number, loop_of, lesser, offsets_in, part_in, where_opened, opened_size, offsets_at}
 use Rattle.layout.specs.Refusals.{block_limit}
@@ -241,3 +242,16 @@ module _ (kept : List ℕ) (from to : ℕ) where
 
   pub none_counted : {count : ℕ} → opened_size ≤ length kept → count ≡ word_at kept 12 → count ≡ 0 → Err NoRecord ≡ where_opened (part_in kept from to)
   none_counted h c z = rw (eq-eqb (part_in kept from to).count 0 (part_none (sym (c ∙ word_in kept 12 (omega arith)) ∙ z)))
+
+-- what is given is the record that the bytes stand for, and where nothing is given it is of no channel
+pub opened_gives : (x r : HpsReader) → Ok r ≡ where_opened x → (r ≡ x) × (r.count ≡ 0 → ⊥)
+opened_gives x r e =
+    by_cases (eqb x.count 0)
+    (λ t. let z : Ok r ≡ Err NoRecord = rw t at e in cc)
+    (λ t. let z : Ok r ≡ Ok x = rw t at e in let y : r ≡ x = cc in (y, rw y (eqb-false x.count 0 t)))
+
+pub opened_none : (x : HpsReader) (n : Failure) → Err n ≡ where_opened x → (n ≡ NoRecord) × (x.count ≡ 0)
+opened_none x n e =
+    by_cases (eqb x.count 0)
+    (λ t. let z : Err n ≡ Err NoRecord = rw t at e in (cc, eqb-true x.count 0 t))
+    (λ t. let z : Err n ≡ Ok x = rw t at e in cc)

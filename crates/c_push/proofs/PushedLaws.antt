@@ -26,7 +26,7 @@ use Rattle.writer.specs.declared.Cue.{Cue}
 use Rattle.writer_assign_cues.specs.declared.Taken.{Taken}
 use Rattle.c_record.specs.Fields.{writer_of, fields_of, fields_with}
 use Rattle.writer.specs.declared.Stream.{Stream}
-use Rattle.writer_push_plan.specs.declared.Plan.{Plan}
+use Rattle.writer_push_plan.specs.PushPlan.{Planned}
 use Rattle.c_record.specs.declared.Fields.{Fields}
 use Rattle.c_record.specs.KeptSides.{side_in, table_in, cues_at, left_at, right_at, loader_size}
 use Rattle.c_record.proofs.SameLaws.{side_same}
@@ -69,7 +69,7 @@ side-there : (k : List ℕ) → ((fields_in k).stream.left ≡ side_in k left_at
 unfolding fields_in
 side-there k = (refl, refl)
 
-module _ (k : List ℕ) (some : (stream_in k).setup.slot ≡ 0 → ⊥) {ch : ℕ} {l r : ChannelBlock} {ld rd : List ℕ} {last : Bool} {lent : List ℕ} {end : ℕ} {t : Taken} {held : Bool} {plan : Plan}
+module _ (k : List ℕ) (some : (stream_in k).setup.slot ≡ 0 → ⊥) {ch : ℕ} {l r : ChannelBlock} {ld rd : List ℕ} {last : Bool} {lent : List ℕ} {end : ℕ} {t : Taken} {held : Bool} {plan : Planned}
     (w : Worked (writer_in k) ch l r ld rd last lent end t held plan) (z : plan.due ≡ 0) (block : empty_push (push_args ch l r ld rd last) ≡ false)
     (fl : SideFits l) (fr : SideFits r) (long : Long (stream_in k).setup.channels) where
   abbrev next : Fields

@@ -7,7 +7,7 @@ ghost use Rattle.writer.specs.Calls.{push_of};
 ghost use Rattle.writer.specs.Loading.{push_args};
 ghost use Rattle.c_record.specs.KeptWriter.{stream_in, writer_in};
 ghost use Rattle.c_opened.specs.Failures.{failure_number};
-ghost use Rattle.c_loading.specs.KeptLoading.{kept_says, on_kept, given_after, bytes_pushed};
+ghost use Rattle.c_loading.specs.KeptLoading.{kept_says, numbered, on_kept, given_after, bytes_pushed};
 
 use c_opened::failure::Failure;
 use c_record::Fields;
@@ -41,7 +41,8 @@ pub fn push_kept(
     lent: &mut [u8],
 ) -> Result<Place, Failure>
     requires { (left.length < 4294967296) × (right.length < 4294967296) }
-    ensures { let o = push_of (writer_in kept.old) (push_args channels left right left_data.now right_data.now last) lent.old in
+    ensures fails { numbered result }
+    ensures given { let o = push_of (writer_in kept.old) (push_args channels left right left_data.now right_data.now last) lent.old in
         (kept_says result ≡ on_kept kept.old o)
         × (lent.new ≡ given_after (kept_says result).number lent.old o.lent)
         × (kept.new ≡ given_after (kept_says result).number kept.old (bytes_pushed kept.old o))
@@ -51,7 +52,7 @@ pub fn push_kept(
     let end = block_end(f.stream.base, left.length);
     let taken = take_kept(kept, f, end, last);
     let held = held_kept(kept, f);
-    let plan = plan_push(
+    let planned = plan_push(
         f.setup,
         f.stream,
         taken,
@@ -64,18 +65,15 @@ pub fn push_kept(
         right_data.len(),
         last,
         lent.len(),
-    );
-    if plan.due != 0 {
-        return Err(Failure::Refused(plan.due));
-    }
+    )?;
     // An empty push: no block, and nothing to keep.
-    if plan.size == 0 {
+    let Some(plan) = planned else {
         let nowhere = Place {
             offset: 0,
             length: 0,
         };
         return Ok(nowhere);
-    }
+    };
     put_header(lent, 0, plan.header);
     put_taken_kept(lent, BLOCK_HEADER_SIZE, kept, f, taken);
     put_data(lent, plan.start, channels, left_data, right_data);

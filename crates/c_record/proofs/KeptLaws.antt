@@ -54,13 +54,6 @@ held_gives f x y e =
     (λ t. let z : Ok y ≡ Err NoRecord = rw t at e in cc)
     (λ t. let z : Ok y ≡ Ok x = rw t at e in (cc, eqb-false f.setup.slot 0 t))
 
--- and where nothing is given there is none
-pub held_none : {A : Type 0} (f : Fields) (x : A) (n : Failure) → Err n ≡ where_held f x → (n ≡ NoRecord) × (f.setup.slot ≡ 0)
-held_none f x n e =
-    by_cases (eqb f.setup.slot 0)
-    (λ t. let z : Err n ≡ Err NoRecord = rw t at e in (cc, eqb-true f.setup.slot 0 t))
-    (λ t. let z : Err n ≡ Ok x = rw t at e in cc)
-
 -- ---- The premise of the loading calls
 
 marked-last : (n : ℕ) (l f : Bool) → marks_good n l f ≡ true → (l ≡ true → 0 < n) × (f ≡ true → l ≡ true)

@@ -17,9 +17,6 @@ pub record Same (s t : List ℕ) (from to : ℕ) : Type 0 where
   pub long : length s ≡ length t
   pub byte : (i : ℕ) → from ≤ i → i < to → get_or s i 0 ≡ get_or t i 0
 
-pub same-all : (s : List ℕ) (from to : ℕ) → Same s s from to
-same-all s from to = record { long = refl; byte = λ i a b. refl }
-
 pub same_then : {s t u : List ℕ} {from to : ℕ} → Same s t from to → Same t u from to → Same s u from to
 same_then a b = record { long = a.long ∙ b.long; byte = λ i l h. a.byte i l h ∙ b.byte i l h }
 

@@ -12,7 +12,7 @@ use c_record::places::{
     NEXT_AT, OFFSET_AT, SLOT_AT, SUM_AT,
 };
 use layout_put::put_u32;
-use writer::{Stream};
+use writer::Stream;
 
 // No block of the stream is the loop block.
 const NOWHERE: u64 = 0xFFFF_FFFF_FFFF_FFFF;

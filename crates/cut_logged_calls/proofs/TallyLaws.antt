@@ -230,10 +230,6 @@ module _ (slot ch : ℕ) (mode : Looping) (lent logged : List ℕ) where
   unfolding writes logged_writes writes_in
   begin-is room = (begin_logs room).is
 
-  pub begin-put : 1 ≤ length logged → first.bytes ≡ put_at logged 0 (handed (writes begun))
-  unfolding writes
-  begin-put room = (begin_logs room).put
-
   tally_of : {q : WriteLog} {after : List ℕ} → log_size ≤ length logged → slot ≤ key_limit → answer_of begun ≡ accepted 0
       → Logs empty_log logged begun.lent (places_in begun.reply) q after → Tally q begun.writer after
   unfolding begin_of sizes sum

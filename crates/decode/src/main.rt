@@ -11,10 +11,9 @@ use host_io::remembering::Remembering;
 use host_io::{buffer, read_full, write_all};
 use key_print::{print_stop, slot_room};
 use layout::limits::{KEY_LIMIT, SLOT_LIMIT};
-use layout_put::put_bytes;
-use reader_decode::DecodeReply;
-use script_words::numbers::{Number, unsigned};
+use script_words::numbers::unsigned;
 use std::env::Env;
+use std::io;
 use std::io::{Read, Write};
 use std::rt::Files;
 
@@ -41,8 +40,8 @@ fn print<W: Write, E: Write>(to: &mut Remembering<W>, err: &mut E, slot: &[u8], 
     match print_channel(to, slot, channel) {
         Err(_) => to.tell(err, b"standard output"),
         Ok(heard) => {
-            if let DecodeReply::Refused(number) = heard.reply {
-                print_stop(err, number);
+            if let Err(refusal) = heard.end {
+                print_stop(err, u32::from(refusal));
             }
         }
     }
@@ -56,7 +55,7 @@ fn read_on<F: Read>(file: &mut F, first: &[u8], slot: &mut [u8]) -> usize
     if k > slot.len() {
         return 0;
     }
-    put_bytes(slot, 0, first);
+    slot[..k].copy_from_slice(first);
     let n = read_full(file, &mut slot[k..]);
     k + n
 }
@@ -97,40 +96,39 @@ fn print_slot<F: Read, W: Write, E: Write>(
     print(to, err, &slot[..n], channel);
 }
 
-// SLOT, opened for reading, or none. A read of no bytes tells a folder.
+// A file, opened for reading. A read of no bytes tells a folder.
+fn readable<R: Files>(files: &R, path: &[u8]) -> io::Result<R::File> {
+    let mut file = open_read(files, path)?;
+    file.read(&mut [])?;
+    Ok(file)
+}
+
+// SLOT, or none.
 fn open_slot<R: Env + Files, E: Write>(rt: &R, err: &mut E) -> Option<R::File> {
     let mut name = buffer();
     let k = arg(rt, 1, &mut name);
-    let mut none = [0u8; 1];
-    match open_read(rt, &name[..k]) {
+    match readable(rt, &name[..k]) {
+        Ok(file) => Some(file),
         Err(error) => {
             fail(err, &name[..k], error);
             None
         }
-        Ok(mut file) => match file.read(&mut none[..0]) {
-            Err(error) => {
-                fail(err, &name[..k], error);
-                None
-            }
-            Ok(_) => Some(file),
-        },
     }
 }
 
 // The argument CHANNEL.
-fn channel<R: Env>(rt: &R) -> Number {
+fn channel<R: Env>(rt: &R) -> Option<u64> {
     let mut word = buffer();
     let n = arg(rt, 2, &mut word);
-    unsigned(&word[..n], 18446744073709551615)
+    unsigned(&word[..n], u64::MAX)
 }
 
 fn main(rt: HostRuntime) {
     let mut err = rt.stderr();
-    let chosen = channel(&rt);
-    if !chosen.good {
+    let Some(channel) = channel(&rt) else {
         help(&mut err);
         return;
-    }
+    };
     if arg_count(&rt, 4) != 3 {
         help(&mut err);
         return;
@@ -139,12 +137,5 @@ fn main(rt: HostRuntime) {
         return;
     };
     let mut out = Remembering::new(rt.stdout());
-    print_slot(
-        &mut file,
-        &mut out,
-        &mut err,
-        b"",
-        chosen.value as usize,
-        false,
-    );
+    print_slot(&mut file, &mut out, &mut err, b"", channel as usize, false);
 }

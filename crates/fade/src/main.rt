@@ -1,15 +1,14 @@
 // Samples, 16 bits little-endian, faded from standard input to standard output; `help` says how it is used.
 #![tactic(auto)]
 
-ghost use Rattle.std.specs.Prelude.{◌-◌, ◌%◌, ◌≤◌, ◌<◌, ◌≡◌, length, get_or, set};
+ghost use Rattle.std.specs.Prelude.{◌-◌, ◌%◌, ◌≤◌, ◌<◌, ◌≡◌, length, get_or, set, IfSome};
 
-use fader::FadeReply;
 use fader_pcm::fade_pcm;
-use host_io::host::{arg, arg_count, fail};
+use host_io::host::{arg_count, argument, fail};
 use host_io::remembering::Remembering;
-use host_io::{buffer, large_buffer, write_all};
+use host_io::{LARGE, PATH, write_all, zeros};
 use key_print::print_stop;
-use script_words::numbers::{Number, unsigned};
+use script_words::numbers::unsigned;
 use std::env::Env;
 use std::io::{Read, Write};
 
@@ -23,22 +22,6 @@ LEVEL is 0 (silence) to 1,023 (as they are). A refusal is a line STOP and its nu
     );
 }
 
-// How many bytes at the start of the room are held for the next portion: 1 where half a sample is.
-#[derive(Clone, Copy)]
-struct Turn {
-    held: usize,
-    more: bool,
-}
-
-fn ended() -> Turn
-    ensures { result.held ≤ 1 }
-{
-    Turn {
-        held: 0,
-        more: false,
-    }
-}
-
 // The input has ended, with half a sample or without.
 fn at_end<E: Write>(err: &mut E, held: usize) {
     if held != 0 {
@@ -49,9 +32,9 @@ fn at_end<E: Write>(err: &mut E, held: usize) {
     }
 }
 
-// Fades the samples of a portion and prints them; half a sample at its end is left where it is.
+// Fades the samples of a portion and prints them; half a sample at its end is left where it is. The level is not refused.
 fn print_faded<W: Write>(to: &mut W, level: usize, bytes: &mut [u8]) -> bool {
-    fade_pcm(level, bytes);
+    let _ = fade_pcm(level, bytes);
     let n = bytes.len();
     write_all(to, &bytes[..n - n % 2])
 }
@@ -66,7 +49,7 @@ fn hold(room: &mut [u8], n: usize) -> usize
     n % 2
 }
 
-// Reads a portion behind the bytes that are held, and prints it faded.
+// Reads a portion behind the bytes that are held, and prints it faded. How many bytes are held then, 1 where half a sample is; nothing after the last portion.
 fn fade_some<R: Read, W: Write, E: Write>(
     from: &mut R,
     to: &mut Remembering<W>,
@@ -74,29 +57,26 @@ fn fade_some<R: Read, W: Write, E: Write>(
     level: usize,
     room: &mut [u8],
     held: usize,
-) -> Turn
+) -> Option<usize>
     requires { (length room.old ≡ 65536) × (held ≤ 1) }
-    ensures { result.held ≤ 1 }
+    ensures { IfSome result (λ n. n ≤ 1) }
 {
     match from.read(&mut room[held..]) {
         Err(error) => {
             fail(err, b"standard input", error);
-            ended()
+            None
         }
         Ok(0) => {
             at_end(err, held);
-            ended()
+            None
         }
         Ok(k) => {
             let n = held + k;
             if !print_faded(to, level, &mut room[..n]) {
                 to.tell(err, b"standard output");
-                return ended();
+                return None;
             }
-            Turn {
-                held: hold(room, n),
-                more: true,
-            }
+            Some(hold(room, n))
         }
     }
 }
@@ -108,46 +88,35 @@ fn fade_all<R: Read, W: Write, E: Write>(
     err: &mut E,
     level: usize,
 ) {
-    let mut room = large_buffer();
+    let mut room = zeros::<LARGE>();
     let mut held: usize = 0;
-    let mut portions = u64::MAX;
-    while portions > 0 {
-        let turn = fade_some(from, to, err, level, &mut room, held);
-        if !turn.more {
-            return;
+    for _ in 0..u64::MAX {
+        match fade_some(from, to, err, level, &mut room, held) {
+            Some(n) => held = n,
+            None => return,
         }
-        held = turn.held;
-        portions -= 1;
     }
 }
 
 // The argument LEVEL.
-fn level<R: Env>(rt: &R) -> Number {
-    let mut word = buffer();
-    let n = arg(rt, 1, &mut word);
-    unsigned(&word[..n], 18446744073709551615)
+fn level<R: Env>(rt: &R) -> Option<usize> {
+    let mut word = zeros::<PATH>();
+    let n = argument(rt, 1, &mut word)?;
+    Some(unsigned(&word[..n], u64::MAX)? as usize)
 }
 
 fn main(rt: HostRuntime) {
     let mut err = rt.stderr();
-    let chosen = level(&rt);
-    if !chosen.good {
-        help(&mut err);
-        return;
-    }
-    if arg_count(&rt, 3) != 2 {
-        help(&mut err);
-        return;
-    }
-    let mut none = [0u8; 0];
-    let reply = fade_pcm(chosen.value as usize, &mut none);
-    match reply {
-        FadeReply::Refused(number) => {
-            print_stop(&mut err, number);
-        }
-        FadeReply::Faded => {
-            let mut out = Remembering::new(rt.stdout());
-            fade_all(&mut rt.stdin(), &mut out, &mut err, chosen.value as usize);
-        }
+    match level(&rt) {
+        Some(level) if arg_count(&rt, 3) == 2 => match fade_pcm(level, &mut []) {
+            Err(why) => {
+                print_stop(&mut err, why.into());
+            }
+            Ok(()) => {
+                let mut out = Remembering::new(rt.stdout());
+                fade_all(&mut rt.stdin(), &mut out, &mut err, level);
+            }
+        },
+        _ => help(&mut err),
     }
 }

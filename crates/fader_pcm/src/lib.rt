@@ -38,6 +38,7 @@ fn fade_within(level: usize, bytes: &mut [u8])
 {
     let mut samples = room();
     let mut at: usize = 0;
+    // A loop: each portion says how many samples it has, and is cut from what is left.
     loop {
         let n = fade_portion(level, &mut bytes[at..], &mut samples);
         if n == 0 {

@@ -53,7 +53,7 @@ pub struct Call<T> {
 fn lack(held: usize) -> usize
     ensures { result ≡ share - held }
 {
-    if held < SHARE { SHARE - held } else { 0 }
+    SHARE.saturating_sub(held)
 }
 
 // Whether so many free frames outnumber what the other decoder, which holds so many, still lacks.

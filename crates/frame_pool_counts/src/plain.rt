@@ -1,20 +1,15 @@
 // The rule (document 02, Card 4) computed plainly, over who holds each frame. It calls nothing of frame_pool.
-ghost use Rattle.std.specs.Prelude.{◌<◌};
+ghost use Rattle.std.specs.Prelude.{◌<◌, ◌≤◌};
 
 use frame_pool::DecoderId;
+use layout::refusal::Refusal;
 
 pub(crate) const FRAMES: usize = 16;
 
-// The holder of a free frame.
-pub(crate) const NOBODY: u8 = 0;
+// Of a free frame nobody.
+pub(crate) type Holders = [Option<DecoderId>; FRAMES];
 
-pub(crate) fn holder(who: DecoderId) -> u8 {
-    match who {
-        DecoderId::A => 1,
-        DecoderId::B => 2,
-    }
-}
-
+// Not that of frame_pool, so that the rule is computed apart from it.
 pub(crate) fn other(who: DecoderId) -> DecoderId {
     match who {
         DecoderId::A => DecoderId::B,
@@ -23,83 +18,55 @@ pub(crate) fn other(who: DecoderId) -> DecoderId {
 }
 
 // How many frames have this holder.
-pub(crate) fn count(holders: &[u8; FRAMES], holder: u8) -> u8 {
-    let mut n: u8 = 0;
-    for i in 0..FRAMES {
-        if holders[i] == holder {
-            n += 1;
-        }
-    }
-    n
+pub(crate) fn count(holders: &Holders, holder: Option<DecoderId>) -> usize
+    ensures { result ≤ 16 }
+{
+    holders.iter().filter(|h| **h == holder).count()
 }
 
 // What a decoder that holds so many lacks to six: a signed number, cut at 0.
-fn lack(held: u8) -> i64 {
-    let short = 6 - held as i64;
-    if short < 0 { 0 } else { short }
+fn lack(held: usize) -> i64
+    requires { held ≤ 16 }
+{
+    (6 - held as i64).max(0)
 }
 
 // Whether the free frames outnumber what the other decoder lacks.
-pub(crate) fn serves(holders: &[u8; FRAMES], who: DecoderId) -> bool {
-    let free = count(holders, NOBODY) as i64;
-    free > lack(count(holders, holder(other(who))))
+pub(crate) fn serves(holders: &Holders, who: DecoderId) -> bool {
+    let free = count(holders, None) as i64;
+    free > lack(count(holders, Some(other(who))))
 }
 
 // The last free frame of a scan from 0 on; 0 where there is none.
-fn highest_free(holders: &[u8; FRAMES]) -> usize
+fn highest_free(holders: &Holders) -> usize
     ensures { result < 16 }
 {
     let mut last: usize = 0;
-    for i in 0..FRAMES {
-        if holders[i] == NOBODY {
+    for (i, holder) in holders.iter().enumerate() {
+        if holder.is_none() {
             last = i;
         }
     }
     last
 }
 
-// What a call comes to by the rule: the number of the frame or of the refusal, and who holds each frame after it.
-#[derive(Clone, Copy)]
-pub(crate) struct RuleCall {
-    pub(crate) accepted: bool,
-    pub(crate) number: usize,
-    pub(crate) holders: [u8; FRAMES],
+pub(crate) fn plain_take(holders: &mut Holders, who: DecoderId) -> Result<usize, Refusal> {
+    if !serves(holders, who) {
+        return Err(Refusal::NotServed);
+    }
+    let frame = highest_free(holders);
+    holders[frame] = Some(who);
+    Ok(frame)
 }
 
-fn refusal(holders: [u8; FRAMES], number: usize) -> RuleCall {
-    RuleCall {
-        accepted: false,
-        number,
-        holders,
+pub(crate) fn plain_give(
+    holders: &mut Holders,
+    who: DecoderId,
+    frame: usize,
+) -> Result<(), Refusal> {
+    if frame >= FRAMES || holders[frame] != Some(who) {
+        return Err(Refusal::NotHeld);
     }
-}
-
-// A frame with its new holder.
-fn change(before: [u8; FRAMES], frame: usize, holder: u8) -> RuleCall
-    requires { frame < 16 }
-{
-    let mut holders = before;
-    holders[frame] = holder;
-    RuleCall {
-        accepted: true,
-        number: frame,
-        holders,
-    }
-}
-
-pub(crate) fn plain_take(holders: [u8; FRAMES], who: DecoderId) -> RuleCall {
-    if !serves(&holders, who) {
-        return refusal(holders, 32);
-    }
-    change(holders, highest_free(&holders), holder(who))
-}
-
-pub(crate) fn plain_give(holders: [u8; FRAMES], who: DecoderId, frame: usize) -> RuleCall {
-    if frame > 15 {
-        return refusal(holders, 33);
-    }
-    if holders[frame] != holder(who) {
-        return refusal(holders, 33);
-    }
-    change(holders, frame, NOBODY)
+    holders[frame] = None;
+    Ok(())
 }

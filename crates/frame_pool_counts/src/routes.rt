@@ -1,19 +1,18 @@
 // The routes to a pool in which A holds a frames and B holds b.
-use crate::plain::{FRAMES, count, holder, other, serves};
+use crate::plain::{FRAMES, Holders, count, other, serves};
 use crate::trial::{Trial, start, with_give, with_take};
 use frame_pool::DecoderId;
 
-fn held(trial: Trial, who: DecoderId) -> u8 {
-    let holders = trial.holders;
-    count(&holders, holder(who))
+fn held(trial: Trial, who: DecoderId) -> usize {
+    count(&trial.holders, Some(who))
 }
 
 // Whether the trial came to (a, b), every take served.
-pub(crate) fn reached(trial: Trial, a: u8, b: u8) -> bool {
-    trial.served & (held(trial, DecoderId::A) == a) & (held(trial, DecoderId::B) == b)
+pub(crate) fn reached(trial: Trial, a: usize, b: usize) -> bool {
+    trial.served && held(trial, DecoderId::A) == a && held(trial, DecoderId::B) == b
 }
 
-fn take_times(before: Trial, who: DecoderId, times: u8) -> Trial {
+fn take_times(before: Trial, who: DecoderId, times: usize) -> Trial {
     let mut trial = before;
     for _ in 0..times {
         trial = with_take(trial, who);
@@ -21,11 +20,11 @@ fn take_times(before: Trial, who: DecoderId, times: u8) -> Trial {
     trial
 }
 
-pub(crate) fn b_first(a: u8, b: u8) -> Trial {
+pub(crate) fn b_first(a: usize, b: usize) -> Trial {
     take_times(take_times(start(), DecoderId::B, b), DecoderId::A, a)
 }
 
-pub(crate) fn a_first(a: u8, b: u8) -> Trial {
+pub(crate) fn a_first(a: usize, b: usize) -> Trial {
     take_times(take_times(start(), DecoderId::A, a), DecoderId::B, b)
 }
 
@@ -33,7 +32,7 @@ fn take_where(trial: Trial, who: DecoderId, due: bool) -> Trial {
     if due { with_take(trial, who) } else { trial }
 }
 
-pub(crate) fn in_turns(a: u8, b: u8) -> Trial {
+pub(crate) fn in_turns(a: usize, b: usize) -> Trial {
     let mut trial = start();
     for turn in 0..16 {
         trial = take_where(trial, DecoderId::A, turn < a);
@@ -44,12 +43,11 @@ pub(crate) fn in_turns(a: u8, b: u8) -> Trial {
 
 // A take where the rule serves it.
 fn take_served(trial: Trial, who: DecoderId) -> Trial {
-    let holders = trial.holders;
-    take_where(trial, who, serves(&holders, who))
+    take_where(trial, who, serves(&trial.holders, who))
 }
 
 // The same where the decoder holds fewer than n.
-fn take_under(trial: Trial, who: DecoderId, n: u8) -> Trial {
+fn take_under(trial: Trial, who: DecoderId, n: usize) -> Trial {
     if held(trial, who) < n {
         take_served(trial, who)
     } else {
@@ -57,25 +55,26 @@ fn take_under(trial: Trial, who: DecoderId, n: u8) -> Trial {
     }
 }
 
-// The first frame of a holder from a number on, after 15 from 0 on; 16 where there is none.
-fn first_held(holders: &[u8; FRAMES], holder: u8, from: usize) -> usize {
+// A decoder's first frame from a number on, after 15 from 0 on.
+fn first_held(holders: &Holders, who: DecoderId, from: usize) -> Option<usize> {
+    // By number: the search goes on from 15 to 0.
     for i in 0..FRAMES {
         let at = (from % FRAMES + i) % FRAMES;
-        if holders[at] == holder {
-            return at;
+        if holders[at] == Some(who) {
+            return Some(at);
         }
     }
-    FRAMES
+    None
 }
 
-// A give of the decoder's first frame from a number on, which is refused where it holds none.
+// A give of the decoder's first frame from a number on; where it holds none, of 16, which is refused.
 fn give_from(trial: Trial, who: DecoderId, from: usize) -> Trial {
-    let holders = trial.holders;
-    with_give(trial, who, first_held(&holders, holder(who), from))
+    let frame = first_held(&trial.holders, who, from).unwrap_or(FRAMES);
+    with_give(trial, who, frame)
 }
 
 // The same where the decoder holds more than n.
-fn give_over(trial: Trial, who: DecoderId, n: u8, from: usize) -> Trial {
+fn give_over(trial: Trial, who: DecoderId, n: usize, from: usize) -> Trial {
     if held(trial, who) > n {
         give_from(trial, who, from)
     } else {
@@ -85,7 +84,7 @@ fn give_over(trial: Trial, who: DecoderId, n: u8, from: usize) -> Trial {
 
 // A decoder that holds n gives a frame back and takes again. In between the other, which holds m, has one more where it is served:
 // else the frame just given, which may be the highest free one, would only come back.
-fn exchange(trial: Trial, who: DecoderId, n: u8, m: u8, from: usize) -> Trial {
+fn exchange(trial: Trial, who: DecoderId, n: usize, m: usize, from: usize) -> Trial {
     let given = give_from(trial, who, from);
     let lent = take_served(given, other(who));
     let again = take_under(lent, who, n);
@@ -94,7 +93,7 @@ fn exchange(trial: Trial, who: DecoderId, n: u8, m: u8, from: usize) -> Trial {
 }
 
 // The same of each decoder, so that the held frames do not lie together.
-pub(crate) fn exchanged(trial: Trial, a: u8, b: u8, from: usize) -> Trial {
+pub(crate) fn exchanged(trial: Trial, a: usize, b: usize, from: usize) -> Trial {
     let one = exchange(trial, DecoderId::A, a, b, from);
     exchange(one, DecoderId::B, b, a, from)
 }

@@ -138,6 +138,7 @@ pub fn answer_lines(from: Progress, text: &[u8], out: &mut [u8]) -> LinesAnswere
         return LinesAnswered { progress, length };
     }
     let mut at: usize = 0;
+    // A while: the next line starts where next_line says, which the contract goes by.
     while at < text.len() {
         if progress.ended {
             return LinesAnswered { progress, length };

@@ -7,5 +7,5 @@ use key_print::{print_listing, slot_room};
 fn main(rt: HostRuntime) {
     let mut slot = slot_room();
     let n = read_full(&mut rt.stdin(), &mut slot);
-    print_listing(&mut rt.stdout(), &slot[..n]);
+    let _ = print_listing(&mut rt.stdout(), &slot[..n]);
 }

@@ -54,11 +54,6 @@ pub record Placing (l : List ℕ) (at width n : ℕ) (b : List ℕ) (left k : �
   pub is : b ≡ put l (at + k) tail
   pub whole : column width n ≡ column k left ++ tail
 
-pub placing_none : (l : List ℕ) (at width n : ℕ) → at + width ≤ length l → Placing l at width n l n width
-placing_none l at width n h =
-    let e = append-nil (column width n) in
-    record { tail = []; few = omega arith; long = omega arith; inside = h; same = refl; is = sym (put-none l (at + width)); whole = sym e }
-
 module _ {l : List ℕ} {at width n : ℕ} {b : List ℕ} {left k : ℕ} (p : Placing l at width n b left k) (h : 0 < k) where
   digits : List ℕ
   digits = (48 + left % 10) ∷ p.tail

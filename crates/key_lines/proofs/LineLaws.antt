@@ -28,9 +28,6 @@ pub record Widths (cs : List Column) (n i : ℕ) : Type 0 where
   pub is : n ≡ min (5 + wide) 18446744073709551615
   pub whole : length (columns_bytes cs) ≡ wide + length (columns_bytes (drop i cs))
 
-pub widths_none : (cs : List Column) → Widths cs 5 0
-widths_none cs = record { wide = 0; is = refl; whole = omega arith }
-
 next_column : (cs : List Column) (i : ℕ) (d : Column) → i < length cs → columns_bytes (drop i cs) ≡ column_bytes (get_or cs i d) ++ columns_bytes (drop (i + 1) cs)
 next_column cs i d h = rw (add-one i) (ap columns_bytes (drop-cons cs i d h))
 
@@ -43,9 +40,6 @@ module _ {cs : List Column} {n i : ℕ} (p : Widths cs n i) where
       let x = column_bytes (get_or cs i d) in
       let q : length (columns_bytes (drop i cs)) ≡ length x + length (columns_bytes (drop (i + 1) cs)) = ap length (next_column cs i d h) ∙ length-append x (columns_bytes (drop (i + 1) cs)) in
       record { wide = p.wide + w; is = omega (arith, p.is); whole = omega (arith, p.whole) }
-
-  pub widths_all : length cs ≤ i → n ≡ min (5 + length (columns_bytes cs)) 18446744073709551615
-  widths_all h = let q : length (columns_bytes (drop i cs)) ≡ 0 = ap length (no_column cs i h) in omega (arith, p.is, p.whole)
 
 -- after the word the first i columns are put from an offset on, where the whole line fits
 pub record Columns (l : List ℕ) (at : ℕ) (word : List ℕ) (cs : List Column) (b : List ℕ) (end i : ℕ) : Type 0 where
@@ -118,10 +112,3 @@ module _ (l : List ℕ) (at : ℕ) (word : List ℕ) (cs : List Column) (e : len
       let r = line_room k h in
       let o = le-leb (at + length (line word cs)) (length l) (omega (arith, r.0)) in
       record { put = g; long = rw o (omega (arith, r.1)) }
-
--- what is put lies in the buffer
-pub put-most : {l bs c : List ℕ} {at n : ℕ} → LinePut l at bs c n → n ≤ length l
-put-most {l} {bs} {c} {at} {n} p =
-    by_cases (leb (at + length bs) (length l))
-    (λ t. omega (arith, leb-true (at + length bs) (length l) t, rw t at p.long))
-    (λ t. omega (arith, rw t at p.long))

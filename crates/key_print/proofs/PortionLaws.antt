@@ -83,10 +83,6 @@ module _ {s : List ℕ} {r : HpsReader} {stage : Stage} {before after : List ℕ
         ended = λ z. rw (← z) (filled_none f b (sym z));
       }
 
--- the portion as it is
-pub more_same : {s : List ℕ} {r : HpsReader} {p : Portion} {out : List ℕ} → Held p out → p.at < p.end → MoreIs s r p out p out
-more_same h l = record { held = h; long = refl; same = refl; ended = λ z. absurd (omega arith) }
-
 -- ---- A portion passed
 
 -- its first k bytes left out
@@ -154,10 +150,6 @@ module _ {a b whole whole2 : List ℕ} {r q : HpsReader} {p p2 left right : Port
     (w : Alike whole whole2 (still_listed a r p m) (still_listed b q p2 m2)) (f : MoreIs a r p m left out) (g : MoreIs b q p2 m2 right other) where
   now : Alike whole whole2 (still_listed a r left out) (still_listed b q right other)
   now = rw (f.same, g.same) w
-
-  -- both have ended
-  pub ended-both : left.at ≡ left.end → right.at ≡ right.end → whole ≡ whole2
-  ended-both e d = now.back (f.ended e ∙ sym (g.ended d))
 
   -- the left one alone has
   pub ended-one : left.at ≡ left.end → (right.at ≡ right.end → ⊥) → whole ≡ whole2 → ⊥

@@ -77,6 +77,7 @@ pub fn print_stop<W: Write>(to: &mut W, number: u32) -> usize
 }
 
 // A portion of a listing in a buffer, from `at` to `end`, and the stage after it.
+// No slice of the buffer in it: the buffer is lent to `fill` again while the portion is kept.
 #[derive(Clone, Copy)]
 struct Portion {
     stage: Stage,

@@ -112,10 +112,3 @@ passed {t} {m} {n} e f = leb-true m n (sym e ∙ f)
 
 pub failed : {t : Bool} {m n : ℕ} → t ≡ leb m n → t ≡ false → n < m
 failed {t} {m} {n} e f = leb-false m n (sym e ∙ f)
-
--- two tests that say the same
-pub leb_same : (a b c d : ℕ) → (a ≤ b → c ≤ d) → (c ≤ d → a ≤ b) → leb a b ≡ leb c d
-leb_same a b c d f g =
-    by_cases (leb a b)
-    (λ t. t ∙ sym (le-leb c d (f (leb-true a b t))))
-    (λ t. t ∙ by_cases (leb c d) (λ u. absurd (let h = g (leb-true c d u) in let k = leb-false a b t in omega arith)) (λ u. sym u))

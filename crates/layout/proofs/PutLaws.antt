@@ -147,8 +147,6 @@ module _ {A : Type 0} {f : A → List ℕ} {w : ℕ} {l : List ℕ} {at : ℕ} {
   each_none h g = record { many = h; inside = g; few = omega arith; is = sym (put_at-none l at) }
 
   module _ {b : List ℕ} {i : ℕ} (p : PuttingEach f w l at xs n b i) where
-    pub each_long : length b ≡ length l
-    each_long = ap length p.is ∙ put_at-length l at (flat_map f (take i xs))
 
     pub each_more : {c : List ℕ} (d : A) → ((x : A) → length (f x) ≡ w) → i < n → c ≡ put_at b (at + w * i) (f (get_or xs i d)) → PuttingEach f w l at xs n c (i + 1)
     each_more d each h e =

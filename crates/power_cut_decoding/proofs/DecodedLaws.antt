@@ -37,14 +37,6 @@ module _ (s : List ℕ) (r : HpsReader) (ch i places : ℕ) where
     unfolding on_block
     decoding-ended e = decoding-is ∙ rw e
 
-    pub decoding-gave : {rate gain n start j : ℕ} {cs : List ℤ} {c : FrameContext} {bytes : List ℕ} → block_read s r ch i ≡ BlockAnswer.gave rate Adpcm cs gain n c start bytes j
-        → decoding s r ch i places ≡ pick (ltb places (adpcm_samples n)) (DecodeAnswer.refused 14) (DecodeAnswer.gave (block_decoded cs c n bytes) j)
-    unfolding on_block decoded_into
-    decoding-gave {n = n} {cs = cs} {c = c} {bytes = bytes} e =
-        let long : length bytes ≡ adpcm_bytes n = (rw e at (read_says s r ch i)).long in
-        decoding-is ∙ rw e (rw (field-inside bytes (adpcm_bytes n) (block_decoded cs c n bytes) (omega arith))
-        (by_cases (ltb places (adpcm_samples n)) (λ t. rw t) (λ t. rw t)))
-
 -- ---- A finished stream
 
 -- every channel that a book gives is ADPCM

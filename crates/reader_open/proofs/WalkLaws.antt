@@ -92,11 +92,6 @@ pub record Walking (s places offsets : List ℕ) (count current : ℕ) : Type 0 
   pub is : offsets ≡ over seen places
   pub same : walk_from (length places) s [] file_header_size ≡ walk_from (length places - count) s seen current
 
-pub walking_none : (s places : List ℕ) → Walking s places places 0 file_header_size
-walking_none s ps =
-    let e : length ps ≡ length ps - 0 = omega arith in
-    record { seen = []; long = refl; few = omega arith; is = refl; same = ap (λ (n : ℕ). walk_from n s [] file_header_size) e }
-
 -- What a walk is to come to: its answer, and what it leaves of the places.
 pub record Walks (s places : List ℕ) (w : Walk) (offsets : List ℕ) : Type 0 where
   pub answer : Read.value w ≡ walk_of (walk_from (length places) s [] file_header_size)

@@ -42,9 +42,6 @@ pub record Summing (s offsets : List ℕ) (i sum : ℕ) : Type 0 where
   pub few : sum ≤ i * 4294967296
   pub same : lengths_at s offsets ≡ plus sum (lengths_at s (drop i offsets))
 
-pub summing_none : (s offsets : List ℕ) → Summing s offsets 0 0
-summing_none s offsets = record { few = omega arith; same = plus_none (lengths_at s offsets) }
-
 module _ {s offsets : List ℕ} {i sum : ℕ} (w : Summing s offsets i sum) where
   pub summed : length offsets ≤ i → addresses sum ≡ lengths_at s offsets
   unfolding lengths_at

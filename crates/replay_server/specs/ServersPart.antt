@@ -5,8 +5,7 @@ use Rattle.layout.specs.Puts.{put_at}
 use Rattle.replay_input.specs.Parts.{part_at}
 use Rattle.reader.specs.OpeningAndReading.{Opened, opening}
 use Rattle.writer.specs.declared.Place.{Place}
-use Rattle.writer.specs.declared.Reply.{Reply}
-use Rattle.writer.specs.declared.Reply.TheVariants.{Refused, NoWrite, OneWrite, ThreeWrites}
+use Rattle.writer.specs.Calls.{Reply}
 
 -- Whether an opening is as due: before finish's last write it is refused with 2 or 3.
 abbrev pub is_due : Opened → (opens : Bool) → Bool
@@ -42,7 +41,7 @@ header_applied s n x y z lent =
 
 -- A reply held to the number due, 0 where the call is accepted, and to the finished length.
 unfoldable pub reply_applied : (slot : List ℕ) (n : ℕ) → Reply → (due finished : ℕ) (lent : List ℕ) → Applied
-reply_applied s n (Refused k) due l lent = applied (eqb k due) s
-reply_applied s n NoWrite due l lent = applied (eqb due 0) s
-reply_applied s n (OneWrite p) due l lent = pick (eqb due 0) (write_applied s n p lent 0 p.length false) (applied false s)
-reply_applied s n (ThreeWrites k x y z) due l lent = pick (eqb due 0) (pick (eqb k l) (header_applied s n x y z lent) (applied false s)) (applied false s)
+reply_applied s n (Reply.Refused k) due l lent = applied (eqb k due) s
+reply_applied s n Reply.NoWrite due l lent = applied (eqb due 0) s
+reply_applied s n (Reply.OneWrite p) due l lent = pick (eqb due 0) (write_applied s n p lent 0 p.length false) (applied false s)
+reply_applied s n (Reply.ThreeWrites k x y z) due l lent = pick (eqb due 0) (pick (eqb k l) (header_applied s n x y z lent) (applied false s)) (applied false s)

@@ -4,6 +4,7 @@
 
 ghost use Rattle.std.specs.Prelude.{◌≡◌};
 ghost use Rattle.reader.specs.OpeningAndReading.{opening};
+ghost use Rattle.writer.specs.Calls.{reply_says};
 ghost use Rattle.replay_server.specs.ServersPart.{is_due, applied, write_applied, header_applied, reply_applied};
 
 use layout::fields::inside;
@@ -11,7 +12,7 @@ use layout::refusal::Refusal;
 use layout_put::put_bytes;
 use reader_open::open;
 use replay_input::part;
-use writer::{Place, Reply};
+use writer::{Place, Writes};
 
 // Whether the slot opens; with 2 or 3 where it must not.
 fn opens_as(s: &[u8], opens: bool) -> bool
@@ -67,21 +68,21 @@ fn apply_header(
 pub fn is_applied(
     slot: &mut [u8],
     n: usize,
-    reply: Reply,
+    answer: Result<Writes, Refusal>,
     due: u32,
     length: usize,
     lent: &[u8],
 ) -> bool
-    ensures value { result ≡ (reply_applied slot.old n reply due length lent.now).good }
-    ensures slot_after { slot.new ≡ (reply_applied slot.old n reply due length lent.now).slot }
+    ensures value { result ≡ (reply_applied slot.old n (reply_says answer) due length lent.now).good }
+    ensures slot_after { slot.new ≡ (reply_applied slot.old n (reply_says answer) due length lent.now).slot }
 {
-    match reply {
-        Reply::Refused(number) => number == due,
-        Reply::NoWrite => due == 0,
-        Reply::OneWrite(place) => {
+    match answer {
+        Err(refusal) => u32::from(refusal) == due,
+        Ok(Writes::None) => due == 0,
+        Ok(Writes::One(place)) => {
             due == 0 && apply_write(slot, n, place, lent, 0, place.length, false)
         }
-        Reply::ThreeWrites(finished, start, rest, mark) => {
+        Ok(Writes::Three(finished, start, rest, mark)) => {
             due == 0 && finished == length && apply_header(slot, n, start, rest, mark, lent)
         }
     }

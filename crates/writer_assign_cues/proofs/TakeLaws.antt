@@ -8,9 +8,12 @@ use native.Mathlib.Nat.{zero-add, suc-add, add-zero}
 use native.Mathlib.Numerals.{add-one}
 use borrow.Author.Tests.{lt-ltb, le-ltb, leb-true, leb-false}
 use lib.Dec.{ltb, leb}
+use Rattle.std.specs.Prelude.{not, count_by}
+use Rattle.std.specs.List.{list_any}
+use Rattle.std.proofs.lemmas.List.Recursion.{is_count_by}
+use Rattle.std.proofs.lemmas.List.{drop-take}
 use lib.ListN.{length, get_or, take, drop, drop_of_length-le}
 use lib.Seq.{slice, slice-cons, slice_empty, length-slice, length-take-le, take-take, take-nil, take_all}
-use Rattle.layout.specs.Choice.{◌or◌}
 use Rattle.layout.specs.Lists.{any, filter}
 use Rattle.layout.proofs.Cases.{by_cases}
 use Rattle.writer.specs.Loading.{loops, points, any_loop}
@@ -64,69 +67,20 @@ below-start t from to lim h = record { above = omega arith; within = h; rest = r
 
 -- ---- Counting
 
--- of the cues from a place up to k, n are points and ranges, and whether a Loop is among them is known
-pub record Tally (t : List Cue) (from to k n : ℕ) (asked : Bool) : Type 0 where
-  pub above : from ≤ k
-  pub within : k ≤ to
-  pub few : n ≤ k
-  pub counted : points (slice from to t) ≡ n + points (slice k to t)
-  pub found : any_loop (slice from to t) ≡ asked or any_loop (slice k to t)
+pub points_are : (cs : List Cue) → count_by (λ (c : Cue). not (loops c.kind)) cs ≡ points cs
+unfolding points filter
+points_are cs =
+    sym (is_count_by points (λ (c : Cue). not (loops c.kind)) refl (λ d ds. by_cases (loops d.kind) (λ q. rw q) (λ q. rw q (omega arith))) cs)
 
-pub tally_start : (t : List Cue) (from to : ℕ) → from ≤ to → Tally t from to from 0 false
-tally_start t from to h = record { above = omega arith; within = h; few = omega arith; counted = sym (zero-add _); found = refl }
+-- a part of the table, as the code takes it
+pub part_is : (t : List Cue) (from to : ℕ) → from ≤ to → take (to - from) (drop from t) ≡ slice from to t
+part_is t from to h =
+    let e : from + (to - from) ≡ to = omega arith in
+    sym (drop-take from (to - from) t) ∙ ap (λ (m : ℕ). drop from (take m t)) e
 
-or_true : (a b : Bool) → b ≡ true → a or b ≡ true
-or_true true b h = refl
-or_true false b h = h
-
-or_skip : (a b c : Bool) → b ≡ c → a or b ≡ a or c
-or_skip a b c h = rw h
-
-module _ (t : List Cue) (from to k n : ℕ) (asked : Bool) (len : length t ≡ cue_limit) (most : to ≤ cue_limit) (inv : Tally t from to k n asked) where
-  module _ (z : Cue) (b : Bool) (lt : k < to) (is : b ≡ loops (get_or t k z).kind) where
-    pub tally_loop : b ≡ true → Tally t from to (k + 1) n true
-    unfolding points filter any
-    tally_loop h =
-        let u = unrolled t to k len most z lt in
-        let p : points (slice k to t) ≡ points (slice (k + 1) to t) = rw (u, sym is ∙ h) in
-        let a : any_loop (slice k to t) ≡ true = rw (u, sym is ∙ h) in
-        record { above = omega (arith, inv.above); within = omega arith; few = omega (arith, inv.few); counted = inv.counted ∙ rw p; found = inv.found ∙ or_true asked _ a }
-
-    pub tally_point : b ≡ false → Tally t from to (k + 1) (n + 1) asked
-    unfolding points filter any
-    tally_point h =
-        let u = unrolled t to k len most z lt in
-        let p : points (slice k to t) ≡ suc (points (slice (k + 1) to t)) = rw (u, sym is ∙ h) in
-        let a : any_loop (slice k to t) ≡ any_loop (slice (k + 1) to t) = rw (u, sym is ∙ h) in
-        record { above = omega (arith, inv.above); within = omega arith; few = omega (arith, inv.few); counted = inv.counted ∙ omega arith; found = inv.found ∙ or_skip asked _ _ a }
-
-  pub tally_end : to ≤ k → record { to = to; points = n; asked = asked } ≡ tallied to (slice from to t)
-  unfolding tallied points filter any
-  tally_end ge =
-      let e = none_left t to k len most ge in
-      let p : points (slice from to t) ≡ n = inv.counted ∙ rw e (omega arith) in
-      let a : any_loop (slice from to t) ≡ asked = inv.found ∙ rw e (or_none asked) in
-      rw (p, a)
-    where
-      or_none : (a : Bool) → a or false ≡ a
-      or_none true = refl
-      or_none false = refl
-
--- ---- Looking for a Loop
-
-module _ (t : List Cue) (to k : ℕ) (len : length t ≡ cue_limit) (most : to ≤ cue_limit) (inv : any_loop (slice 0 to t) ≡ any_loop (slice k to t)) where
-  module _ (z : Cue) (b : Bool) (lt : k < to) (is : b ≡ loops (get_or t k z).kind) where
-    pub loop_found : b ≡ true → true ≡ any_loop (slice 0 to t)
-    unfolding any
-    loop_found h = sym (inv ∙ rw (unrolled t to k len most z lt, sym is ∙ h))
-
-    pub loop_not : b ≡ false → any_loop (slice 0 to t) ≡ any_loop (slice (k + 1) to t)
-    unfolding any
-    loop_not h = inv ∙ rw (unrolled t to k len most z lt, sym is ∙ h)
-
-  pub no_loop_lem : to ≤ k → false ≡ any_loop (slice 0 to t)
-  unfolding any
-  no_loop_lem ge = sym (inv ∙ rw (none_left t to k len most ge))
+pub loop_is : (cs : List Cue) → list_any (λ (c : Cue). loops c.kind) cs ≡ any_loop cs
+unfolding any
+loop_is cs = refl
 
 -- ---- The cues that a block takes
 

@@ -1,7 +1,7 @@
 // The cues that a block takes of the table, and their bytes (document 01, "Loading").
 #![tactic(auto)]
 
-ghost use Rattle.std.specs.Prelude.{◌≡◌, ◌+◌, ◌-◌, ◌*◌, ◌≤◌, ◌<◌, length};
+ghost use Rattle.std.specs.Prelude.{◌≡◌, ◌+◌, ◌-◌, ◌*◌, ◌≤◌, ◌<◌, length, not, count_by};
 ghost use Rattle.std.proofs.Math.Seq.{slice};
 ghost use Rattle.std.specs.List.{list_any};
 ghost use Rattle.layout.specs.Records.{padded_size, cue_bytes, cue_point_size};
@@ -37,34 +37,35 @@ fn below(cues: [Cue; CUE_LIMIT], from: usize, count: usize, limit: u64) -> usize
     requires { (from ≤ count) × (count ≤ cue_limit) }
     ensures { (result ≡ from + below limit (slice from count cues)) × (from ≤ result) × (result ≤ count) }
 {
-    let mut k = from;
-    while k < count {
-        let cue = cues[k];
-        if cue.start >= limit {
+    for k in from..count {
+        if cues[k].start >= limit {
             return k;
         }
-        k += 1;
     }
-    k
+    count
+}
+
+// How many of these cues are points and ranges.
+fn points_in(cues: &[Cue]) -> usize
+    ensures { result ≡ count_by (λ c. not (loops c.kind)) cues.now }
+{
+    cues.iter().filter(|c| !loops(c.kind)).count()
+}
+
+// Whether a Loop is among these cues.
+fn has_loop(cues: &[Cue]) -> bool
+    ensures { result ≡ list_any (λ c. loops c.kind) cues.now }
+{
+    cues.iter().any(|c| loops(c.kind))
 }
 
 fn tally(cues: [Cue; CUE_LIMIT], from: usize, to: usize) -> Taken
     requires { (from ≤ to) × (to ≤ cue_limit) }
     ensures { result ≡ tallied to (slice from to cues) }
 {
-    let mut k = from;
-    let mut points: usize = 0;
-    let mut asked = false;
-    while k < to {
-        let cue = cues[k];
-        let kind = cue.kind;
-        k += 1;
-        if loops(kind) {
-            asked = true;
-        } else {
-            points += 1;
-        }
-    }
+    let part = &cues[from..to];
+    let points = points_in(part);
+    let asked = has_loop(part);
     Taken { to, points, asked }
 }
 
@@ -93,12 +94,6 @@ pub fn take(cues: [Cue; CUE_LIMIT], from: usize, count: usize, end: u64, last: b
         points: 0,
         asked: false,
     }
-}
-
-fn has_loop(cues: &[Cue]) -> bool
-    ensures { result ≡ list_any (λ c. loops c.kind) cues.now }
-{
-    cues.iter().any(|c| loops(c.kind))
 }
 
 // Whether the table has a Loop.
@@ -139,14 +134,11 @@ fn put_points(
     requires cues_in_bounds { at + length (point_bytes base id (slice from to cues)) ≤ length buf.old }
     ensures { buf.new ≡ put_at buf.old at (point_bytes base id (slice from to cues)) }
 {
-    let mut k = from;
     let mut p = at;
     let mut n = id as u64;
-    while k < to {
+    for k in from..to {
         let cue = cues[k];
-        let kind = cue.kind;
-        k += 1;
-        if loops(kind) {
+        if loops(cue.kind) {
             continue;
         }
         put_point(buf, p, distance(cue.start, base), n);

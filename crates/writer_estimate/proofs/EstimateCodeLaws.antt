@@ -73,9 +73,6 @@ pub record Summed (ch : ℕ) (ns : List ℕ) (total i : ℕ) : Type 0 where
   pub rest : total + sum (for_block ch) (drop i ns) ≡ file_header_size + sum (for_block ch) ns
   pub small : total ≤ file_header_size + most_block * i
 
-pub none_summed : (ch : ℕ) (ns : List ℕ) → length ns ≤ block_limit → Summed ch ns file_header_size 0
-none_summed ch ns h = record { few = omega arith; many = h; passed = refl; rest = refl; small = omega arith }
-
 module _ (ch : ℕ) (ns : List ℕ) (total i : ℕ) (s : Summed ch ns total i) (h : i < length ns) where
   here : drop i ns ≡ get_or ns i 0 ∷ drop (i + 1) ns
   here = rw (drop-cons ns i 0 h, add-one)

@@ -62,17 +62,6 @@ module _ (mode : Looping) (held asked : Bool) (end : ℕ) (last : Bool) where
     unfolding loops_here
     loops_past h l = rw (m, h, l)
 
-module _ (loopat : Option ℕ) (offset : ℕ) (due : Bool) where
-  pub stays_at : (n : ℕ) → loopat ≡ Some n → loopat ≡ loop_from loopat offset due
-  stays_at n e = rw e
-
-  module _ (e : loopat ≡ None) where
-    pub starts-here : due ≡ true → Some offset ≡ loop_from loopat offset due
-    starts-here h = rw (h, e)
-
-    pub starts_not : due ≡ false → None ≡ loop_from loopat offset due
-    starts_not h = rw (h, e)
-
 -- ---- Sizes
 
 module _ (ch l r x : ℕ) (small : l ≤ mono_limit) (is : x ≡ saturated (padded_size l)) where

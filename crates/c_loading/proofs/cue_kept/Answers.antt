@@ -1,7 +1,6 @@
 use mathlib.Core.Path.{◌≡◌, ap, ◌∙◌}
 use Rattle.c_record.specs.KeptWriter.{stream_in, writer_in}
-use Rattle.writer.specs.Calls.{called, cue_of, Outcome}
-use Rattle.writer.specs.declared.Called.{Called}
+use Rattle.writer.specs.Calls.{Replied, called, called_says, cue_of, Outcome}
 use Rattle.writer.specs.declared.HpsWriter.{HpsWriter}
 use Rattle.c_record.proofs.KeptLaws.{kept_good, held_gives}
 use Rattle.c_opened.specs.Failures.{failure_number}
@@ -22,11 +21,11 @@ cue-call-requires c = rw (held_gives (stream_in c.args.kept.now) _ _ c.in_ok-w.e
 
 -- the call, on the record that the bytes hold
 
-told : (c : After-cue-call) → c.cue-call.result ≡ called (cued c)
+told : (c : After-cue-call) → called_says c.cue-call.result ≡ called (cued c)
 told c = c.cue-call.ensures.value ∙ ap (λ (m : HpsWriter). called (cue_of m c.args.c)) (held_gives (stream_in c.args.kept.now) _ _ c.in_ok-w.ensures).0
 
 refused : (c : After-from_residual-in_err-place) → failure_number c.in_err-place.field-0.0 ≡ 0 → ⊥
-refused c = cue_err (writer_in c.args.kept.now) c.args.c _ (c.in_err-place.ensures ∙ ap (λ (q : Called). place_in q.reply) (told (goal.at.returns-in_err-place-clause-kept_after c).After-cue-call))
+refused c = cue_err (writer_in c.args.kept.now) c.args.c _ (c.in_err-place.ensures ∙ ap (λ (q : Replied). place_in q.reply) (told (goal.at.returns-in_err-place-clause-kept_after c).After-cue-call))
 
 pub returns-in_err-place-clause-kept_after : goal.returns-in_err-place-clause-kept_after
 returns-in_err-place-clause-kept_after c = left_err _ _ _ _ c.from_residual-in_err-place.ensures.1 (refused c)
@@ -40,5 +39,5 @@ put_table-requires c = (c.cue-call.ensures.good.few, (holds c.args.kept.now (the
 pub returns-clause-kept_after_2 : goal.returns-clause-kept_after_2
 returns-clause-kept_after_2 c =
     let k = c.args.kept.now in
-    let w = ap (λ (q : Called). q.writer) (told (goal.at.returns-clause-kept_after_2 c).After-cue-call) in
+    let w = ap (λ (q : Replied). q.writer) (told (goal.at.returns-clause-kept_after_2 c).After-cue-call) in
     cue-after k c.args.c c.cue-call.result.writer c.put_table.new.kept (there (goal.at.returns-clause-kept_after_2 c).In_ok-w).1 w c.put_table.ensures.kept_after c.put_table.ensures.n_after

@@ -1,13 +1,12 @@
 use mathlib.Core.Path.{◌≡◌, ap, ◌∙◌}
 use Rattle.std.proofs.Common.{Err}
 use Rattle.c_record.specs.KeptWriter.{stream_in, writer_in}
-use Rattle.writer.specs.Calls.{called, finish_of, Outcome}
-use Rattle.writer.specs.declared.Called.{Called}
+use Rattle.writer.specs.Calls.{Replied, called, called_says, finish_of, Outcome}
 use Rattle.writer.specs.declared.HpsWriter.{HpsWriter}
 use Rattle.c_record.proofs.KeptLaws.{kept_good, held_gives}
 use Rattle.c_loading.specs.KeptLoading.{place_in}
 use Rattle.c_loading.proofs.BackLaws.{finish_after}
-use Rattle.c_loading.proofs.CallLaws.{left_err, finish_err, finish_ok}
+use Rattle.c_loading.proofs.CallLaws.{left_err, numbered_err, finish_err, finish_ok}
 use Rattle.c_loading.proofs.finish_kept.Goals as goal
 use Rattle.c_loading.proofs.finish_kept.Goals.{After-finish-call, After-from_residual-in_err-place}
 
@@ -19,7 +18,7 @@ finish-call-requires c = rw (held_gives (stream_in c.args.kept.now) _ _ c.in_ok-
 
 -- the call, on the record that the bytes hold
 
-told : (c : After-finish-call) → (c.finish-call.result ≡ called (finished c)) × (c.finish-call.new.lent ≡ (finished c).lent)
+told : (c : After-finish-call) → (called_says c.finish-call.result ≡ called (finished c)) × (c.finish-call.new.lent ≡ (finished c).lent)
 told c =
     let w = (held_gives (stream_in c.args.kept.now) _ _ c.in_ok-w.ensures).0 in (
       c.finish-call.ensures.value ∙ ap (λ (m : HpsWriter). called (finish_of m c.args.lent.now)) w,
@@ -27,12 +26,16 @@ told c =
     )
 
 refused : (c : After-from_residual-in_err-place) → Err c.in_err-place.field-0.0 ≡ place_in (finish_of (writer_in c.args.kept.now) c.args.lent.now).reply
-refused c = c.in_err-place.ensures ∙ ap (λ (q : Called). place_in q.reply) (told (goal.at.returns-in_err-place-clause-kept_after c).After-finish-call).0
+refused c = c.in_err-place.ensures ∙ ap (λ (q : Replied). place_in q.reply) (told (goal.at.returns-in_err-place-clause-kept_after c).After-finish-call).0
 
 pub returns-in_err-place-clause-lent_after : goal.returns-in_err-place-clause-lent_after
 returns-in_err-place-clause-lent_after c =
     let z = finish_err (writer_in c.args.kept.now) c.args.lent.now _ (refused c) in
     (told (goal.at.returns-in_err-place-clause-kept_after c).After-finish-call).1 ∙ z.1 ∙ left_err _ _ _ _ c.from_residual-in_err-place.ensures.1 z.0
+
+pub returns-in_err-place-clause-fails : goal.returns-in_err-place-clause-fails
+returns-in_err-place-clause-fails c =
+    numbered_err _ _ c.from_residual-in_err-place.ensures.1 (finish_err (writer_in c.args.kept.now) c.args.lent.now _ (refused c)).0
 
 pub returns-in_err-place-clause-kept_after : goal.returns-in_err-place-clause-kept_after
 returns-in_err-place-clause-kept_after c =
@@ -47,5 +50,5 @@ returns-clause-kept_after_2 c =
     let k = c.args.kept.now in
     let there = held_gives (stream_in k) _ _ c.in_ok-w.ensures in
     let call = (told (goal.at.returns-clause-kept_after_2 c).After-finish-call).0 in
-    let due = finish_ok (writer_in k) c.args.lent.now _ (c.in_ok-place.ensures ∙ ap (λ (q : Called). place_in q.reply) call) in
+    let due = finish_ok (writer_in k) c.args.lent.now _ (c.in_ok-place.ensures ∙ ap (λ (q : Replied). place_in q.reply) call) in
     ap writer_in c.put_finished.ensures ∙ finish_after k c.args.lent.now there.1 due

@@ -1,16 +1,8 @@
-use Rattle.std.proofs.Common.{◌+◌, ◌≤◌, length, arith}
+use Rattle.std.proofs.Common.{arith}
 use Rattle.layout.proofs.FieldLaws.{passed, failed}
 use Rattle.power_cut_moments.proofs.MomentLaws.{next_in, next_done, next_out}
 use Rattle.power_cut_moments.proofs.reach_next.Goals as goal
 use Rattle.power_cut_moments.proofs.reach_next.Goals.{else-inside-via-then-inside+else-k-bytes, else-inside-via-else-inside}
-
-pub overflow_add-slot : goal.overflow_add-slot
-overflow_add-slot c = let s = c.args in let h : s.at + length s.bytes.now ≤ length s.slot.now =
-    passed c.inside.ensures c.if-inside.true in omega arith
-
-pub bounds-slot-at : goal.bounds-slot-at
-bounds-slot-at c = let s = c.args in let h : s.at + length s.bytes.now ≤ length s.slot.now =
-    passed c.inside.ensures c.if-inside.true in omega arith
 
 pub returns-then-k-bytes : goal.returns-then-k-bytes
 returns-then-k-bytes c = next_in _ _ _ _ (passed c.inside.ensures c.if-inside.true) (omega arith)

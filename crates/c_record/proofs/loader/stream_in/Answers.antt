@@ -14,6 +14,6 @@ returns-then-is_sensible c =
 pub returns-else-f-gt0 : goal.returns-else-f-gt0
 returns-else-f-gt0 c =
     elim c.else-f-gt0.branch [
-      else-f-gt0-via-then-f-gt0+else-is_sensible w ↦ none_sensible _ c.if-kept-lt-LOADER_SIZE.false _ c.fields_in-f.ensures (cc)
+      | else-f-gt0-via-then-f-gt0+else-is_sensible w ↦ none_sensible _ c.if-kept-lt-LOADER_SIZE.false _ c.fields_in-f.ensures (cc)
       | else-f-gt0-via-else-f-gt0 w ↦ none_there _ c.if-kept-lt-LOADER_SIZE.false _ c.fields_in-f.ensures (omega arith)
     ]

@@ -12,7 +12,7 @@ use Rattle.layout.specs.Puts.{put_at}
 use Rattle.layout.proofs.Cases.{by_cases, apart}
 use Rattle.writer.specs.WritesAndCuttingRule.{Write, write, place_of, handed, writes_in, most_writes}
 use Rattle.writer.specs.Loading.{Push, refused, accepted, begin_refusal, begin_write, empty_push, push_refusal, finish_refusal, block_size, start_write, rest_write, mark_write}
-use Rattle.writer.specs.Calls.{Handed, handed_writes, reply_for, places_in, Outcome, outcome, writes, called, blank, empty_of, begin_of, taken_of, state_in, next_for}
+use Rattle.writer.specs.Calls.{Handed, handed_writes, reply_for, places_in, Outcome, Replied, reply_says, outcome, writes, called, called_says, blank, empty_of, begin_of, taken_of, state_in, next_for}
 use Rattle.writer.specs.Calls.{push_bytes, after_block, push_of, header_of, after_finish, finish_of, answer_of, Good}
 use Rattle.writer.specs.declared.Looping.{Looping}
 use Rattle.writer.specs.declared.HpsWriter.{HpsWriter}
@@ -22,7 +22,7 @@ use Rattle.writer.proofs.WriteLaws.{bytes_length, places_are}
 use Rattle.cut_write_log.specs.WriteLog.{Logging, logging, log_all, sizes, logged_writes, empty_log, Listed}
 use Rattle.cut_write_log.specs.declared.WriteLog.{WriteLog}
 use Rattle.cut_write_log.proofs.WriteLogLaws.{Room, Logs, none-listed, logs_long, logs_all}
-use Rattle.cut_logged_calls.specs.LoggedCalls.{lent_of, log_after, made_by, Tally, log_size}
+use Rattle.cut_logged_calls.specs.LoggedCalls.{lent_of, log_after, made_by, made_says, Tally, log_size}
 use Rattle.layout.specs.Refusals.{block_limit, key_limit}
 use Rattle.layout.specs.Records.{file_header_size}
 use Rattle.writer.specs.Push.{advanced}
@@ -117,11 +117,14 @@ module _ (n : ℕ) (w : HpsWriter) (lent : List ℕ) (next : HpsWriter) (h : Han
       record { tally = tally_after n w lent next h g.log g.bytes t c k; is = k.is; put = k.put }
 
 -- What a call leaves, by its outcome.
-pub call_made : (o : Outcome) (g : Logging) {call : Called} {l : List ℕ} {q : WriteLog} {after : List ℕ} → (call ≡ called o) × ((l ≡ o.lent) × Good call.writer)
-    → (q ≡ (log_all g l 0 (places_in call.reply)).log) × (after ≡ (log_all g l 0 (places_in call.reply)).bytes)
-    → (record { writer = call.writer; reply = call.reply; log = q } ≡ made_by o g) × ((after ≡ (log_after o g).bytes) × Good call.writer)
+pub call_made : (o : Outcome) (g : Logging) (call : Called) {l : List ℕ} {q : WriteLog} {after : List ℕ} → (called_says call ≡ called o) × ((l ≡ o.lent) × Good call.writer)
+    → (q ≡ (log_all g l 0 (places_in (reply_says call.answer))).log) × (after ≡ (log_all g l 0 (places_in (reply_says call.answer))).bytes)
+    → (made_says (record { writer = call.writer; answer = call.answer; log = q }) ≡ made_by o g) × ((after ≡ (log_after o g).bytes) × Good call.writer)
 unfolding log_after
-call_made o g b h = (rw (h.0, b.0, b.1.0), (h.1 ∙ rw (b.0, b.1.0), b.1.1))
+call_made o g call b h =
+    let r : reply_says call.answer ≡ o.reply = ap (λ (x : Replied). x.reply) b.0 in
+    let w : call.writer ≡ o.writer = ap (λ (x : Replied). x.writer) b.0 in
+    (rw (h.0, b.1.0, r, w), (h.1 ∙ rw (r, b.1.0), b.1.1))
 
 -- ---- Push
 
@@ -255,9 +258,9 @@ take_zeros zero m h = refl
 take_zeros (suc k) zero h = absurd (omega arith)
 take_zeros (suc k) (suc m) h = ap (λ (bs : List ℕ). 0 ∷ bs) (take_zeros k m (omega arith))
 
-module _ (size : ℕ) {r : ℕ} {z : List ℕ} (zeros : z ≡ replicate key_limit 0) (least : r ≡ min size key_limit) where
+module _ (size : ℕ) {r : ℕ} {z : List ℕ} (zeros : z ≡ replicate key_limit 0) (n : r ≡ min size key_limit) where
   pub lent_is : take r z ≡ lent_of size
-  lent_is = rw zeros (take_zeros r key_limit (omega arith) ∙ rw least)
+  lent_is = rw zeros (take_zeros r key_limit (omega arith) ∙ rw n)
 
   pub lent_length : r ≡ length (take r z)
-  lent_length = rw lent_is (least ∙ sym (length-replicate (min size key_limit) 0))
+  lent_length = rw lent_is (n ∙ sym (length-replicate (min size key_limit) 0))

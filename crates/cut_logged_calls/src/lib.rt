@@ -5,24 +5,24 @@ ghost use Rattle.std.specs.Prelude.{◌≡◌, replicate};
 ghost use Rattle.writer.specs.Loading.{push_args};
 ghost use Rattle.writer.specs.Calls.{Good, begin_of, push_of, finish_of};
 ghost use Rattle.cut_write_log.specs.WriteLog.{empty_log, logging};
-ghost use Rattle.cut_logged_calls.specs.LoggedCalls.{lent_of, log_after, made_by};
+ghost use Rattle.cut_logged_calls.specs.LoggedCalls.{lent_of, log_after, made_by, made_says};
 ghost use Rattle.layout.specs.Refusals.{key_limit};
 
 use cut_write_log::{WriteLog, empty_log, log_reply};
-use layout::least;
 use layout::limits::KEY_LIMIT;
-use writer::{ChannelBlock, HpsWriter, Looping, Reply, begin};
+use layout::refusal::Refusal;
+use writer::{ChannelBlock, HpsWriter, Looping, Writes, begin};
 use writer_finish::finish;
 use writer_push::push;
 
 // The longest lent buffer: a block for a slot of 65,536 bytes gets 24 before it needs more.
 pub const LENT: usize = KEY_LIMIT;
 
-// What a call leaves: the record, the reply, and the writes with its own.
+// What a call leaves: the record, its answer, and the writes with its own.
 #[derive(Clone, Copy)]
 pub struct Made {
     pub writer: HpsWriter,
-    pub reply: Reply,
+    pub answer: Result<Writes, Refusal>,
     pub log: WriteLog,
 }
 
@@ -39,15 +39,19 @@ fn begin_with(
     lent: &mut [u8],
     logged: &mut [u8],
 ) -> Made
-    ensures value { result ≡ made_by (begin_of slot channels mode lent.old) (logging empty_log logged.old) }
+    ensures value { made_says result ≡ made_by (begin_of slot channels mode lent.old) (logging empty_log logged.old) }
     ensures logged_after { logged.new ≡ (log_after (begin_of slot channels mode lent.old) (logging empty_log logged.old)).bytes }
     ensures good { Good result.writer }
 {
     let call = begin(slot, channels, mode, lent);
     let writer = call.writer;
-    let reply = call.reply;
-    let log = log_reply(empty_log(), reply, lent, logged);
-    Made { writer, reply, log }
+    let answer = call.answer;
+    let log = log_reply(empty_log(), answer, lent, logged);
+    Made {
+        writer,
+        answer,
+        log,
+    }
 }
 
 // Begin, with a lent buffer of so many bytes, 65,536 at most.
@@ -58,12 +62,12 @@ pub fn begin_logged(
     room: usize,
     logged: &mut [u8],
 ) -> Made
-    ensures value { result ≡ made_by (begin_of slot channels mode (lent_of room)) (logging empty_log logged.old) }
+    ensures value { made_says result ≡ made_by (begin_of slot channels mode (lent_of room)) (logging empty_log logged.old) }
     ensures logged_after { logged.new ≡ (log_after (begin_of slot channels mode (lent_of room)) (logging empty_log logged.old)).bytes }
     ensures good { Good result.writer }
 {
     let mut lent = zeros();
-    let n = least(room, LENT);
+    let n = room.min(LENT);
     begin_with(slot, channels, mode, &mut lent[..n], logged)
 }
 
@@ -80,16 +84,20 @@ fn push_with(
     logged: &mut [u8],
 ) -> Made
     requires { Good w }
-    ensures value { result ≡ made_by (push_of w (push_args channels left right left_data.now right_data.now last) lent.old) (logging j logged.old) }
+    ensures value { made_says result ≡ made_by (push_of w (push_args channels left right left_data.now right_data.now last) lent.old) (logging j logged.old) }
     ensures logged_after { logged.new
         ≡ (log_after (push_of w (push_args channels left right left_data.now right_data.now last) lent.old) (logging j logged.old)).bytes }
     ensures good { Good result.writer }
 {
     let call = push(w, channels, left, right, left_data, right_data, last, lent);
     let writer = call.writer;
-    let reply = call.reply;
-    let log = log_reply(j, reply, lent, logged);
-    Made { writer, reply, log }
+    let answer = call.answer;
+    let log = log_reply(j, answer, lent, logged);
+    Made {
+        writer,
+        answer,
+        log,
+    }
 }
 
 // Push, with a lent buffer of so many bytes, 65,536 at most.
@@ -106,13 +114,13 @@ pub fn push_logged(
     logged: &mut [u8],
 ) -> Made
     requires { Good w }
-    ensures value { result ≡ made_by (push_of w (push_args channels left right left_data.now right_data.now last) (lent_of room)) (logging j logged.old) }
+    ensures value { made_says result ≡ made_by (push_of w (push_args channels left right left_data.now right_data.now last) (lent_of room)) (logging j logged.old) }
     ensures logged_after { logged.new
         ≡ (log_after (push_of w (push_args channels left right left_data.now right_data.now last) (lent_of room)) (logging j logged.old)).bytes }
     ensures good { Good result.writer }
 {
     let mut lent = zeros();
-    let n = least(room, LENT);
+    let n = room.min(LENT);
     push_with(
         w,
         channels,
@@ -129,25 +137,29 @@ pub fn push_logged(
 
 fn finish_with(w: HpsWriter, lent: &mut [u8], j: WriteLog, logged: &mut [u8]) -> Made
     requires { Good w }
-    ensures value { result ≡ made_by (finish_of w lent.old) (logging j logged.old) }
+    ensures value { made_says result ≡ made_by (finish_of w lent.old) (logging j logged.old) }
     ensures logged_after { logged.new ≡ (log_after (finish_of w lent.old) (logging j logged.old)).bytes }
     ensures good { Good result.writer }
 {
     let call = finish(w, lent);
     let writer = call.writer;
-    let reply = call.reply;
-    let log = log_reply(j, reply, lent, logged);
-    Made { writer, reply, log }
+    let answer = call.answer;
+    let log = log_reply(j, answer, lent, logged);
+    Made {
+        writer,
+        answer,
+        log,
+    }
 }
 
 // Finish, with a lent buffer of so many bytes, 65,536 at most.
 pub fn finish_logged(w: HpsWriter, room: usize, j: WriteLog, logged: &mut [u8]) -> Made
     requires { Good w }
-    ensures value { result ≡ made_by (finish_of w (lent_of room)) (logging j logged.old) }
+    ensures value { made_says result ≡ made_by (finish_of w (lent_of room)) (logging j logged.old) }
     ensures logged_after { logged.new ≡ (log_after (finish_of w (lent_of room)) (logging j logged.old)).bytes }
     ensures good { Good result.writer }
 {
     let mut lent = zeros();
-    let n = least(room, LENT);
+    let n = room.min(LENT);
     finish_with(w, &mut lent[..n], j, logged)
 }

@@ -4,16 +4,15 @@ use Rattle.layout.specs.Choice.{pick}
 use Rattle.key_lines.specs.Lines.{line}
 use Rattle.key_lines.specs.declared.Column.TheVariants.{Number}
 use Rattle.writer.specs.declared.Place.{Place}
-use Rattle.writer.specs.declared.Reply.{Reply}
-use Rattle.writer.specs.declared.Reply.TheVariants.{Refused, NoWrite, OneWrite, ThreeWrites}
+use Rattle.writer.specs.Calls.{Reply}
 use Rattle.cut_report.specs.declared.ReportLine.{ReportLine}
 
 -- DONE and the call's number, of finish the length too; or STOP, the number and the refusal
 abbrev pub reply_line : (call : ℕ) → Reply → List ℕ
-reply_line call (Refused why) = line (83 ∷ 84 ∷ 79 ∷ 80 ∷ []) (Number call ∷ Number why ∷ [])
-reply_line call NoWrite = line (68 ∷ 79 ∷ 78 ∷ 69 ∷ []) (Number call ∷ [])
-reply_line call (OneWrite place) = line (68 ∷ 79 ∷ 78 ∷ 69 ∷ []) (Number call ∷ [])
-reply_line call (ThreeWrites size start rest mark) = line (68 ∷ 79 ∷ 78 ∷ 69 ∷ []) (Number call ∷ Number size ∷ [])
+reply_line call (Reply.Refused why) = line (83 ∷ 84 ∷ 79 ∷ 80 ∷ []) (Number call ∷ Number why ∷ [])
+reply_line call Reply.NoWrite = line (68 ∷ 79 ∷ 78 ∷ 69 ∷ []) (Number call ∷ [])
+reply_line call (Reply.OneWrite place) = line (68 ∷ 79 ∷ 78 ∷ 69 ∷ []) (Number call ∷ [])
+reply_line call (Reply.ThreeWrites size start rest mark) = line (68 ∷ 79 ∷ 78 ∷ 69 ∷ []) (Number call ∷ Number size ∷ [])
 
 -- WRIT, the call's number, and a write's offset and length
 abbrev pub write_line : (call : ℕ) → Place → List ℕ

@@ -1,16 +1,17 @@
 // The lines of `cut` beside listings, and how one is printed.
 #![tactic(auto)]
 
-ghost use Rattle.std.specs.Prelude.{◌≡◌, [], ◌∷◌, length};
+ghost use Rattle.std.specs.Prelude.{◌≡◌, ◌≤◌, length};
 ghost use Rattle.key_lines.specs.Lines.{line};
-ghost use Rattle.key_lines.specs.declared.Column.TheVariants.{Nothing};
+ghost use Rattle.writer.specs.Calls.{reply_says};
 ghost use Rattle.cut_report.specs.Report.{reply_line, write_line, time_line, script_line, line_in};
 
 use host_io::write_all;
 use key_lines::Column;
 use key_lines::line::put_line;
+use layout::refusal::Refusal;
 use std::io::Write;
-use writer::{Place, Reply};
+use writer::{Place, Writes};
 
 // The room of a line: its word, three columns of the widest kind, the newline.
 const LINE_ROOM: usize = 4 + 3 * 21 + 1;
@@ -22,27 +23,26 @@ pub struct ReportLine {
     length: usize,
 }
 
-fn line_of(word: &[u8; 4], a: Column, b: Column, c: Column) -> ReportLine
-    ensures { line_in result ≡ line word.now (a ∷ b ∷ c ∷ Nothing ∷ Nothing ∷ []) }
+// A line of three columns at most.
+fn line_of(word: &[u8; 4], columns: &[Column]) -> ReportLine
+    requires { length columns.now ≤ 3 }
+    ensures { line_in result ≡ line word.now columns.now }
 {
-    let letters: &[u8] = word;
     let mut bytes = [0u8; LINE_ROOM];
-    let columns = [a, b, c, Column::Nothing, Column::Nothing];
     let length = put_line(&mut bytes, 0, word, columns);
     ReportLine { bytes, length }
 }
 
-pub fn reply_line(call: u64, reply: Reply) -> ReportLine
-    ensures { line_in result ≡ reply_line call reply }
+pub fn reply_line(call: u64, answer: Result<Writes, Refusal>) -> ReportLine
+    ensures { line_in result ≡ reply_line call (reply_says answer) }
 {
     let number = Column::Number(call);
-    let none = Column::Nothing;
-    match reply {
-        Reply::Refused(why) => line_of(b"STOP", number, Column::Number(why as u64), none),
-        Reply::NoWrite => line_of(b"DONE", number, none, none),
-        Reply::OneWrite(_) => line_of(b"DONE", number, none, none),
-        Reply::ThreeWrites(length, _, _, _) => {
-            line_of(b"DONE", number, Column::Number(length as u64), none)
+    match answer {
+        Err(why) => line_of(b"STOP", &[number, Column::Number(u32::from(why) as u64)]),
+        Ok(Writes::None) => line_of(b"DONE", &[number]),
+        Ok(Writes::One(_)) => line_of(b"DONE", &[number]),
+        Ok(Writes::Three(length, _, _, _)) => {
+            line_of(b"DONE", &[number, Column::Number(length as u64)])
         }
     }
 }
@@ -52,21 +52,20 @@ pub fn write_line(call: u64, place: Place) -> ReportLine
 {
     let offset = Column::Number(place.offset as u64);
     let length = Column::Number(place.length as u64);
-    line_of(b"WRIT", Column::Number(call), offset, length)
+    line_of(b"WRIT", &[Column::Number(call), offset, length])
 }
 
 pub fn time_line(first: usize, last: usize) -> ReportLine
     ensures { line_in result ≡ time_line first last }
 {
     let from = Column::Number(first as u64);
-    line_of(b"TIME", from, Column::Number(last as u64), Column::Nothing)
+    line_of(b"TIME", &[from, Column::Number(last as u64)])
 }
 
 pub fn script_line(number: usize) -> ReportLine
     ensures { line_in result ≡ script_line number }
 {
-    let none = Column::Nothing;
-    line_of(b"LINE", Column::Number(number as u64), none, none)
+    line_of(b"LINE", &[Column::Number(number as u64)])
 }
 
 // What is handed to the system is the line, which is there for the premise alone.

@@ -2,12 +2,13 @@
 #![tactic(auto)]
 
 ghost use Rattle.std.specs.Prelude.{◌≡◌, [], ◌∷◌};
-ghost use Rattle.writer.specs.Calls.{places_in};
+ghost use Rattle.writer.specs.Calls.{places_in, reply_says};
 ghost use Rattle.cut_write_log.specs.WriteLog.{empty_log, logging, log_one, log_all};
 
 use layout::fields::inside;
+use layout::refusal::Refusal;
 use layout_put::put_bytes;
-use writer::{MOST_WRITES, Place, Reply};
+use writer::{MOST_WRITES, Place, Writes};
 
 // As many writes as a loading hands out; in an array with their count, since the code allocates nothing.
 #[derive(Clone, Copy)]
@@ -76,15 +77,20 @@ fn log_three(
     log_write(j, start, lent, 0, logged)
 }
 
-// The writes that a call's reply hands out.
-pub fn log_reply(j: WriteLog, reply: Reply, lent: &[u8], logged: &mut [u8]) -> WriteLog
-    ensures value { result ≡ (log_all (logging j logged.old) lent.now 0 (places_in reply)).log }
-    ensures logged_after { logged.new ≡ (log_all (logging j logged.old) lent.now 0 (places_in reply)).bytes }
+// The writes that a call hands out.
+pub fn log_reply(
+    j: WriteLog,
+    answer: Result<Writes, Refusal>,
+    lent: &[u8],
+    logged: &mut [u8],
+) -> WriteLog
+    ensures value { result ≡ (log_all (logging j logged.old) lent.now 0 (places_in (reply_says answer))).log }
+    ensures logged_after { logged.new ≡ (log_all (logging j logged.old) lent.now 0 (places_in (reply_says answer))).bytes }
 {
-    match reply {
-        Reply::Refused(_) => j,
-        Reply::NoWrite => j,
-        Reply::OneWrite(place) => log_write(j, place, lent, 0, logged),
-        Reply::ThreeWrites(_, start, rest, mark) => log_three(j, start, rest, mark, lent, logged),
+    match answer {
+        Err(_) => j,
+        Ok(Writes::None) => j,
+        Ok(Writes::One(place)) => log_write(j, place, lent, 0, logged),
+        Ok(Writes::Three(_, start, rest, mark)) => log_three(j, start, rest, mark, lent, logged),
     }
 }

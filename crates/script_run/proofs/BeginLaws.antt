@@ -14,17 +14,17 @@ use Rattle.script_lines.specs.declared.lines.BeginLine.{BeginLine}
 use Rattle.script_groups.specs.Order.{Starts}
 use Rattle.script_groups.specs.declared.Start.{Start}
 use Rattle.writer.specs.Loading.{accepted, begin_refusal}
-use Rattle.writer.specs.Calls.{Outcome, places_in, begin_of, answer_of}
-use Rattle.writer.specs.declared.Reply.{Reply}
-use Rattle.writer.specs.declared.Reply.TheVariants.{Refused, NoWrite, OneWrite, ThreeWrites}
+use Rattle.writer.specs.Calls.{Outcome, Reply, reply_says, places_in, begin_of, answer_of}
+use Rattle.writer.specs.declared.Writes.{Writes}
+use Rattle.layout.specs.declared.refusal.Refusal.{Refusal}
 use Rattle.writer.proofs.DueLaws.{passed_begin}
 use Rattle.cut_write_log.specs.WriteLog.{empty_log, Logging, logging, log_all}
-use Rattle.cut_logged_calls.specs.LoggedCalls.{lent_of, log_after, log_size}
+use Rattle.cut_logged_calls.specs.LoggedCalls.{Left, lent_of, log_after, log_size}
 use Rattle.cut_logged_calls.specs.declared.Made.{Made}
 use Rattle.script_run.specs.Script.{begun_length, begins, calls_in, calls_of, script_limit}
 use Rattle.script_run.specs.Running.{log_run, script_log, is_refused, refused_reply, begin_refused, accepted_log, begun_log, not_run, load_log, loaded_by, CallMade}
 use Rattle.cut_write_log.specs.declared.WriteLog.{WriteLog}
-use Rattle.std.specs.Prelude.{Option, Some, None}
+use Rattle.std.proofs.Common.{Option, Some, None, Result, Ok, Err, is_err}
 use Rattle.layout.specs.Refusals.{slot_limit, slot_least, key_limit}
 
 -- Begin's answer is a refusal, or 0; a slot of more than 65,536 bytes is refused.
@@ -53,12 +53,19 @@ own_length slot ch b lent a =
 abbrev begin_by : (n : ℕ) → BeginLine → Start → Outcome
 begin_by n b st = begin_of n b.channels b.mode (lent_of st.lent)
 
+-- An answer that is an error is a refusal.
+refused_says : (v : Result Writes Refusal) → is_err v ≡ refused_reply (reply_says v)
+refused_says (Err r) = refl
+refused_says (Ok Writes.None) = refl
+refused_says (Ok (Writes.One p)) = refl
+refused_says (Ok (Writes.Three n p q r)) = refl
+
 -- A refused call hands out no write.
 refused_places : (r : Reply) → refused_reply r ≡ true → places_in r ≡ []
-refused_places (Refused n) h = refl
-refused_places NoWrite h = apart (sym h)
-refused_places (OneWrite p) h = apart (sym h)
-refused_places (ThreeWrites n p q r) h = apart (sym h)
+refused_places (Reply.Refused n) h = refl
+refused_places Reply.NoWrite h = apart (sym h)
+refused_places (Reply.OneWrite p) h = apart (sym h)
+refused_places (Reply.ThreeWrites n p q r) h = apart (sym h)
 
 refused_log : (o : Outcome) (g : Logging) → is_refused (answer_of o) ≡ true → log_after o g ≡ g
 unfolding log_after log_all
@@ -70,13 +77,13 @@ Leaves slot s logged q k = (q ≡ accepted_log (begin_refused slot s) (begun_log
 
 module _ (slot : ℕ) (logged : List ℕ) {n : ℕ} {s line : List ℕ} {st : Start} {b : BeginLine} {r : Bool} {m : Made} {after : List ℕ} (start : Starts s key_limit st)
     (el : line ≡ line_of (drop st.at s)) (eb : b ≡ begin_line line) (en : n ≡ begun_length slot) (made : CallMade (begin_by n b st) (logging empty_log logged) m after)
-    (er : r ≡ refused_reply m.reply) where
+    (er : r ≡ is_err m.answer) where
   is-begins : begin_by n b st ≡ begins slot s
   unfolding begins
   is-begins = rw (en, eb, el, start.line, start.buffer)
 
   answer-is : r ≡ begin_refused slot s
-  answer-is = er ∙ rw made.0 (ap (λ (x : Outcome). is_refused (answer_of x)) is-begins)
+  answer-is = er ∙ (refused_says m.answer ∙ rw (ap (λ (x : Left). x.reply) made.0) (ap (λ (x : Outcome). is_refused (answer_of x)) is-begins))
 
   pub loads_nothing : {q : Option WriteLog} → r ≡ true → q ≡ None → Leaves slot s logged q after
   unfolding begun_log
@@ -92,7 +99,7 @@ module _ (slot : ℕ) (logged : List ℕ) {n : ℕ} {s line : List ℕ} {st : St
   loads_all next f d h =
       let a : begin_refused slot s ≡ false = sym answer-is ∙ f in
       let e : log_run m.writer (logging m.log after) (calls_in st.lent (lines_of (drop next s))) ≡ script_log slot s logged =
-      rw (made.0, made.1.0, is-begins, d, start.rest, start.buffer) in
+      rw (ap (λ (x : Left). x.writer) made.0, ap (λ (x : Left). x.log) made.0, made.1.0, is-begins, d, start.rest, start.buffer) in
       (rw (h.0, a, e), h.1 ∙ rw (a, e))
 
 -- ---- Too long a script, too little room

@@ -25,15 +25,17 @@ use Rattle.writer.specs.declared.ChannelBlock.{ChannelBlock}
 use Rattle.script_lines.proofs.LineLaws.{not_kind}
 use Rattle.script_groups.specs.Order.{sides_in}
 use Rattle.writer.specs.Loading.{Call, cue, push, finish, cue_refusal, push_args}
-use Rattle.writer.specs.Calls.{called, held, cue_of, push_of, finish_of, Good}
+use Rattle.writer.specs.Calls.{Replied, called, called_says, held, cue_of, push_of, finish_of, Good}
 use Rattle.writer.specs.declared.Cue.{Cue}
 use Rattle.writer.specs.declared.HpsWriter.{HpsWriter}
-use Rattle.writer.specs.declared.Reply.{Reply}
+use Rattle.std.specs.Prelude.{Result}
+use Rattle.layout.specs.declared.refusal.Refusal.{Refusal}
+use Rattle.writer.specs.declared.Writes.{Writes}
 use Rattle.writer.specs.declared.Called.{Called}
 use Rattle.power_cut.specs.PowerCut.{step}
 use Rattle.cut_write_log.specs.WriteLog.{Logging, logging, log_all}
 use Rattle.cut_write_log.specs.declared.WriteLog.{WriteLog}
-use Rattle.cut_logged_calls.specs.LoggedCalls.{lent_of, log_after}
+use Rattle.cut_logged_calls.specs.LoggedCalls.{lent_of, log_after, Left}
 use Rattle.cut_logged_calls.specs.declared.Made.{Made}
 use Rattle.script_run.specs.Script.{push_with, push_by, call_by, script_limit}
 use Rattle.script_run.specs.Running.{log_run, CallMade, Makes}
@@ -91,16 +93,16 @@ cue_log w c g = by_cases (eqb (cue_refusal w.stream.blocks (held w) c) 0) (λ q.
 module _ {w : HpsWriter} where
   makes_one : {g : Logging} {m : Made} {after : List ℕ} (c : Call) → CallMade (step w c) g m after → Makes (c ∷ []) w g m after
   unfolding log_run
-  makes_one c h = record { good = h.1.1; is = λ later. rw (h.0, h.1.0) }
+  makes_one c h = record { good = h.1.1; is = λ later. rw (ap (λ (x : Left). x.writer) h.0, ap (λ (x : Left). x.log) h.0, h.1.0) }
 
-  pub makes_none : {j : WriteLog} {logged : List ℕ} (r : Reply) → Good w → Makes [] w (logging j logged) (record { writer = w; reply = r; log = j }) logged
+  pub makes_none : {j : WriteLog} {logged : List ℕ} (r : Result Writes Refusal) → Good w → Makes [] w (logging j logged) (record { writer = w; answer = r; log = j }) logged
   makes_none r g = record { good = g; is = λ later. refl }
 
-  pub cue_makes : (c : Cue) {q : Called} {j : WriteLog} {logged : List ℕ} → q ≡ called (cue_of w c) → Good q.writer
-      → Makes (cue c ∷ []) w (logging j logged) (record { writer = q.writer; reply = q.reply; log = j }) logged
+  pub cue_makes : (c : Cue) {q : Called} {j : WriteLog} {logged : List ℕ} → called_says q ≡ called (cue_of w c) → Good q.writer
+      → Makes (cue c ∷ []) w (logging j logged) (record { writer = q.writer; answer = q.answer; log = j }) logged
   unfolding log_run
   cue_makes c {j = j} {logged = logged} e g =
-      record { good = g; is = λ later. rw e (ap (λ (l : Logging). log_run (cue_of w c).writer l later) (sym (cue_log w c (logging j logged)))) }
+      record { good = g; is = λ later. rw (ap (λ (x : Replied). x.writer) e) (ap (λ (l : Logging). log_run (cue_of w c).writer l later) (sym (cue_log w c (logging j logged)))) }
 
 -- ---- By kinds
 

@@ -3,13 +3,12 @@ use Rattle.std.specs.Prelude.{ℕ, ◌≡◌, Bool, true, false, List, [], ◌�
 use Rattle.layout.specs.Choice.{pick, ◌or◌}
 use Rattle.script_words.specs.Texts.{lines_after, lines_of}
 use Rattle.writer.specs.Loading.{Call, Answer, refused, accepted}
-use Rattle.writer.specs.Calls.{Outcome, answer_in, Good, answer_of}
+use Rattle.writer.specs.Calls.{Outcome, Reply, answer_in, Good, answer_of}
 use Rattle.writer.specs.declared.HpsWriter.{HpsWriter}
-use Rattle.writer.specs.declared.Reply.{Reply}
 use Rattle.power_cut.specs.PowerCut.{step}
 use Rattle.cut_write_log.specs.WriteLog.{empty_log, Logging, logging}
 use Rattle.cut_write_log.specs.declared.WriteLog.{WriteLog}
-use Rattle.cut_logged_calls.specs.LoggedCalls.{log_size, log_after, made_by}
+use Rattle.cut_logged_calls.specs.LoggedCalls.{log_size, log_after, made_by, made_says}
 use Rattle.cut_logged_calls.specs.declared.Made.{Made}
 use Rattle.script_run.specs.Script.{calls_in, begins, calls_of, script_limit}
 use Rattle.script_run.specs.declared.loading.Loading.{Loading}
@@ -60,7 +59,7 @@ loaded_by n s logged = accepted_log (not_run s logged or begin_refused n s) (loa
 
 -- A call leaves its outcome's record and reply, and is logged.
 abbrev pub CallMade : Outcome → Logging → Made → (after : List ℕ) → Type 0
-CallMade o g m after = (m ≡ made_by o g) × ((after ≡ (log_after o g).bytes) × Good m.writer)
+CallMade o g m after = (made_says m ≡ made_by o g) × ((after ≡ (log_after o g).bytes) × Good m.writer)
 
 -- After these calls: the log of the calls after them is what was to come before them.
 pub record Makes (calls : List Call) (w : HpsWriter) (g : Logging) (m : Made) (after : List ℕ) : Type 0 where

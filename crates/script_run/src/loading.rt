@@ -4,19 +4,20 @@ ghost use Rattle.script_words.specs.Texts.{lines_after, lines_of};
 ghost use Rattle.writer.specs.Calls.{Good};
 ghost use Rattle.cut_write_log.specs.WriteLog.{logging};
 ghost use Rattle.script_run.specs.Script.{begun_length, calls_in, script_limit};
-ghost use Rattle.script_run.specs.Running.{log_run, all_of, Follows, refused_reply, begin_refused, accepted_log, begun_log, load_log, loaded_by};
+ghost use Rattle.script_run.specs.Running.{log_run, all_of, Follows, begin_refused, accepted_log, begun_log, load_log, loaded_by};
 
 use crate::made::make;
 use crate::report::{Output, report_call, report_line};
 use cut_logged_calls::{LENT, Made, begin_logged};
 use cut_write_log::WriteLog;
 use layout::limits::{FILE_HEADER_SIZE, KEY_LIMIT, SLOT_LIMIT};
+use layout::refusal::Refusal;
 use script_groups::{lent_after, start_of};
 use script_lines::kinds::{Kind, kind_of};
 use script_lines::lines::begin_line;
 use script_words::text::{line_at, next_line};
 use std::io::Write;
-use writer::{HpsWriter, Reply};
+use writer::{HpsWriter, Writes};
 
 // The longest script.
 pub const SCRIPT_LIMIT: usize = 1_048_576;
@@ -54,14 +55,11 @@ fn load_line<W: Write>(
     let writer = st.writer;
     let before = st.log;
     let m = make(s, next, line, kind, writer, st.lent, before, logged);
-    let writer = m.writer;
-    let reply = m.reply;
-    let log = m.log;
     Loading {
-        writer,
-        log,
+        writer: m.writer,
+        log: m.log,
         lent: lent_after(line, kind, st.lent),
-        call: report_line(v, st.call, kind, reply, log, before.count),
+        call: report_line(v, st.call, kind, m.answer, m.log, before.count),
     }
 }
 
@@ -97,12 +95,6 @@ fn begun_length(n: usize) -> usize
     n
 }
 
-fn is_refused(reply: Reply) -> bool
-    ensures { result ≡ refused_reply reply }
-{
-    matches!(reply, Reply::Refused(_))
-}
-
 // The calls after an accepted begin, of the lines from here on.
 fn load_rest<W: Write>(
     v: &mut Output<'_, W>,
@@ -128,9 +120,13 @@ fn load_rest<W: Write>(
 }
 
 // Tells begin's call: its refusal in every case, since it is the whole answer then.
-fn report_begin<W: Write>(v: &mut Output<'_, W>, refused: bool, reply: Reply, log: WriteLog) {
-    if v.verbose || refused {
-        report_call(v.to, 0, reply, log, 0);
+fn report_begin<W: Write>(
+    v: &mut Output<'_, W>,
+    answer: Result<Writes, Refusal>,
+    log: WriteLog,
+) {
+    if v.verbose || answer.is_err() {
+        report_call(v.to, 0, answer, log, 0);
     }
 }
 
@@ -154,10 +150,8 @@ fn load_script<W: Write>(
         start.lent,
         logged,
     );
-    let reply = m.reply;
-    let refused = is_refused(reply);
-    report_begin(v, refused, reply, m.log);
-    if refused {
+    report_begin(v, m.answer, m.log);
+    if m.answer.is_err() {
         return None;
     }
     let next = next_line(s, start.at);

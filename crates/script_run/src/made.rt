@@ -17,7 +17,7 @@ use script_lines::kinds::Kind;
 use script_lines::lines::{PushLine, cue_line, push_line};
 use script_words::hex::put_data;
 use script_words::text::line_at;
-use writer::{HpsWriter, Reply};
+use writer::{HpsWriter, Writes};
 use writer_cue::cue;
 
 // The most data that a line of a script of 1 MiB says.
@@ -94,11 +94,9 @@ fn cue_call(line: &[u8], kind: Kind, w: HpsWriter, j: WriteLog) -> Made
     ensures { (logged : List ℕ) → Makes (Loading.cue (cue_said line.now kind) ∷ []) w (logging j logged) result logged }
 {
     let call = cue(w, cue_line(line, kind));
-    let writer = call.writer;
-    let reply = call.reply;
     Made {
-        writer,
-        reply,
+        writer: call.writer,
+        answer: call.answer,
         log: j,
     }
 }
@@ -124,7 +122,7 @@ pub(crate) fn make(
         Kind::Point | Kind::Loop | Kind::Range => cue_call(line, kind, w, j),
         _ => Made {
             writer: w,
-            reply: Reply::NoWrite,
+            answer: Ok(Writes::None),
             log: j,
         },
     }

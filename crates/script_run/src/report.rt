@@ -1,9 +1,10 @@
 // What is reported of a call.
 use cut_report::{print_line, reply_line, write_line};
 use cut_write_log::WriteLog;
+use layout::refusal::Refusal;
 use script_lines::kinds::Kind;
 use std::io::Write;
-use writer::Reply;
+use writer::Writes;
 
 // Where calls are reported, and whether they are.
 #[derive(Drop)]
@@ -19,15 +20,15 @@ fn report_writes<W: Write>(to: &mut W, call: u64, log: WriteLog, from: usize) {
     }
 }
 
-// Reports a call: its reply, and the writes that are logged from its first on.
+// Reports a call: its answer, and the writes that are logged from its first on.
 pub(crate) fn report_call<W: Write>(
     to: &mut W,
     call: u64,
-    reply: Reply,
+    answer: Result<Writes, Refusal>,
     log: WriteLog,
     from: usize,
 ) {
-    print_line(to, reply_line(call, reply));
+    print_line(to, reply_line(call, answer));
     report_writes(to, call, log, from);
 }
 
@@ -44,7 +45,7 @@ pub(crate) fn report_line<W: Write>(
     v: &mut Output<'_, W>,
     call: u64,
     kind: Kind,
-    reply: Reply,
+    answer: Result<Writes, Refusal>,
     log: WriteLog,
     from: usize,
 ) -> u64 {
@@ -52,7 +53,7 @@ pub(crate) fn report_line<W: Write>(
         return call;
     }
     if v.verbose {
-        report_call(v.to, call, reply, log, from);
+        report_call(v.to, call, answer, log, from);
     }
     call.saturating_add(1)
 }

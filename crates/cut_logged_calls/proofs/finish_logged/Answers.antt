@@ -2,8 +2,8 @@ use Rattle.cut_logged_calls.proofs.TallyLaws.{lent_is, lent_length}
 use Rattle.cut_logged_calls.proofs.finish_logged.Goals as goal
 
 pub slice_bounds-finish_with-end : goal.slice_bounds-finish_with-end
-slice_bounds-finish_with-end c = lent_length _ c.zeros-lent.ensures c.least-n.ensures
+slice_bounds-finish_with-end c = lent_length _ c.zeros-lent.ensures c.min-n.ensures
 
 pub returns : goal.returns
-returns c = rw (← lent_is _ c.zeros-lent.ensures c.least-n.ensures)
+returns c = rw (← lent_is _ c.zeros-lent.ensures c.min-n.ensures)
     c.finish_with.ensures

@@ -5,7 +5,7 @@ pub returns : goal.returns
 returns c =
     let k = c.finish-call.ensures in
     let l = c.log_reply-log.ensures in
-    let all = call_made _ _ (k.value, (k.lent_after, k.good)) (l.value, l.logged_after) in
+    let all = call_made _ _ c.finish-call.result (k.value, (k.lent_after, k.good)) (l.value, l.logged_after) in
     record {
       value = all.0;
       logged_after = all.1.0;

@@ -2,8 +2,8 @@ use Rattle.cut_logged_calls.proofs.TallyLaws.{lent_is, lent_length}
 use Rattle.cut_logged_calls.proofs.push_logged.Goals as goal
 
 pub slice_bounds-push_with-end : goal.slice_bounds-push_with-end
-slice_bounds-push_with-end c = lent_length _ c.zeros-lent.ensures c.least-n.ensures
+slice_bounds-push_with-end c = lent_length _ c.zeros-lent.ensures c.min-n.ensures
 
 pub returns : goal.returns
-returns c = rw (← lent_is _ c.zeros-lent.ensures c.least-n.ensures)
+returns c = rw (← lent_is _ c.zeros-lent.ensures c.min-n.ensures)
     c.push_with.ensures

@@ -22,9 +22,6 @@ use Rattle.writer.specs.declared.HpsWriter.{HpsWriter}
 use Rattle.c_record.specs.KeptWriter.{stream_in}
 use Rattle.c_loading.specs.KeptLoading.{call_in, kept_says, numbered, place_in, on_kept, given_after}
 
--- what is lent, after a call that is refused and after one that is accepted
-module _ {A : Type 0} (n : ℕ) (before given : A) where
-
 -- what a `?` hands on is the failure that was told
 pub told_on : {A : Type 0} (x : Result A Failure) (e : Failure) → IsErrAnd x (λ y. y ≡ e) → x ≡ Err e
 told_on (Ok a) e h = absurd h

@@ -9,7 +9,7 @@ ghost use Rattle.c_loading.specs.KeptLoading.{kept_says, numbered, place_in, cal
 
 use c_opened::failure::Failure;
 use c_record::Fields;
-use c_record::loader::{mode_of, writer_in};
+use c_record::loader::{mode_in, writer_in};
 use c_record::places::LOADER_SIZE;
 use c_record_put::numbers::{put_finished, put_numbers};
 use c_record_put::put_sides;
@@ -53,7 +53,7 @@ pub fn begin_kept(
     if kept.len() < LOADER_SIZE {
         return Err(Failure::NoRoom);
     }
-    let looping = mode_of(mode)?;
+    let looping = mode_in(mode)?;
     let call = begin(slot, channels, looping, lent);
     let place = place_in(call.answer)?;
     let f = Fields::from(call.writer);

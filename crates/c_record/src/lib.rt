@@ -63,27 +63,34 @@ pub fn sides_short(channels: usize, left: &[u8], right: &[u8]) -> bool
     left.len() < SIDE_SIZE || (channels == 2 && right.len() < SIDE_SIZE)
 }
 
-// 0 a point, 1 a loop, 2 a range of this length.
+// 0 a point, 1 a loop, any other number a range.
 #[tactic(auto, unfolding(crate::specs::KeptSides::kind_of))]
-pub fn kind_of(number: u32, range: u64) -> Result<CueKind, Failure>
-    ensures { result ≡ where_kind number (kind_of number range) }
+pub fn kind_of(number: u32, range: u64) -> CueKind
+    ensures { result ≡ kind_of number range }
 {
     match number {
-        0 => Ok(CueKind::Point),
-        1 => Ok(CueKind::Loop),
-        2 => Ok(CueKind::Range(range)),
-        _ => Err(Failure::NoKind),
+        0 => CueKind::Point,
+        1 => CueKind::Loop,
+        _ => CueKind::Range(range),
     }
 }
 
-// A number that is no kind's stands for a range.
+// The same, of 0, 1 and 2 alone.
+pub fn kind_in(number: u32, range: u64) -> Result<CueKind, Failure>
+    ensures { result ≡ where_kind number (kind_of number range) }
+{
+    if number > 2 {
+        return Err(Failure::NoKind);
+    }
+    Ok(kind_of(number, range))
+}
+
 #[tactic(auto, unfolding(crate::specs::KeptSides::cue_in, crate::specs::KeptSides::kind_of))]
 fn cue_in(s: &[u8], at: usize) -> Cue
     requires { at < 20000 }
     ensures { result ≡ cue_in s.now at }
 {
-    let range = long(s, at + 8);
-    let kind = kind_of(word(s, at + 16), range).unwrap_or(CueKind::Range(range));
+    let kind = kind_of(word(s, at + 16), long(s, at + 8));
     Cue {
         start: long(s, at),
         kind,

@@ -24,16 +24,25 @@ use writer_assign_cues::{Taken, any_loop, put_taken, take};
 // No block of the stream is the loop block.
 const NOWHERE: u64 = 0xFFFF_FFFF_FFFF_FFFF;
 
-// 0 Disabled, 1 Enabled, 2 Auto.
-pub fn mode_of(number: u32) -> Result<Looping, Failure>
-    ensures { result ≡ where_kind number (mode_of number) }
+// 0 Disabled, 1 Enabled, any other number Auto.
+pub fn mode_of(number: u32) -> Looping
+    ensures { result ≡ mode_of number }
 {
     match number {
-        0 => Ok(Looping::Disabled),
-        1 => Ok(Looping::Enabled),
-        2 => Ok(Looping::Auto),
-        _ => Err(Failure::NoKind),
+        0 => Looping::Disabled,
+        1 => Looping::Enabled,
+        _ => Looping::Auto,
     }
+}
+
+// The same, of 0, 1 and 2 alone.
+pub fn mode_in(number: u32) -> Result<Looping, Failure>
+    ensures { result ≡ where_kind number (mode_of number) }
+{
+    if number > 2 {
+        return Err(Failure::NoKind);
+    }
+    Ok(mode_of(number))
 }
 
 #[tactic(auto, unfolding(crate::specs::KeptWriter::loop_offset))]
@@ -108,7 +117,7 @@ fn fields_in(kept: &[u8]) -> Fields
     ensures { result ≡ fields_in kept.now }
 {
     // A number that is no mode's stands for Auto.
-    let mode = mode_of(word(kept, MODE_AT)).unwrap_or(Looping::Auto);
+    let mode = mode_of(word(kept, MODE_AT));
     let setup = Setup {
         slot: long(kept, SLOT_AT) as usize,
         channels: long(kept, CHANNELS_AT) as usize,

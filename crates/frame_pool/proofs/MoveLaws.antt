@@ -79,6 +79,9 @@ not_the_other_s DecoderId.B = refl
 
 -- a frame has gone from the pool to decoder d; e is the other
 pub record Took (p q : Pool) (d e : DecoderId) : Type 0 where
+  pub frees : free_frames q + 1 ≡ free_frames p
+  pub own : held_by d q ≡ held_by d p + 1
+  pub other : held_by e q ≡ held_by e p
 
 module _ (p : Pool) (f : ℕ) (h : f < frame_count) (n : length p.marks ≡ frame_count) where
   marked-count : (m v : Mark) → count_marked frame_count m (with_mark p f v).marks + one (get_or p.marks f None) m ≡ count_marked frame_count m p.marks + one v m

@@ -12,7 +12,7 @@ ghost use Rattle.hps.specs.Exported.{number_of, cue_on, cue_number, push_on, pus
 use c_loading::{begin_kept, cue_kept, finish_kept};
 use c_opened::failure::Failure;
 use c_push::{push_kept, without_side};
-use c_record::{kind_of, side_in, sides_short};
+use c_record::{kind_in, side_in, sides_short};
 use writer::{Cue, Place};
 use writer_estimate::estimate;
 
@@ -57,7 +57,7 @@ fn cue_asked(
         × (kept.new ≡ given_after (kept_says result).number kept.old (bytes_cued kept.old o))
         × (writer_in kept.new ≡ given_after (kept_says result).number (writer_in kept.old) o.writer) }
 {
-    let kind = kind_of(kind, range)?;
+    let kind = kind_in(kind, range)?;
     cue_kept(kept, Cue { start, kind, name })
 }
 

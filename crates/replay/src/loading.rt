@@ -24,17 +24,15 @@ fn run_call(step: &[u8], w: HpsWriter, slot: &mut [u8], lent: &mut [u8]) -> Opti
     ensures { MatchOption result Unit (λ left. Good left) }
 {
     let call = make(step, w, lent);
-    let writer = call.writer;
-    let reply = call.reply;
     let good = is_applied(
         slot,
         size(step, 8),
-        reply,
+        call.answer,
         word(step, 4),
         size(step, 12),
         lent,
     );
-    if good { Some(writer) } else { None }
+    if good { Some(call.writer) } else { None }
 }
 
 // A call that is lent so many bytes of this buffer.

@@ -3,7 +3,7 @@
 
 ghost use Rattle.std.specs.Prelude.{◌<◌, ◌≡◌};
 ghost use Rattle.writer.specs.Loading.{mode_of};
-ghost use Rattle.writer.specs.Calls.{Good, called, cue_of, push_of};
+ghost use Rattle.writer.specs.Calls.{Good, called, called_says, cue_of, push_of};
 ghost use Rattle.writer.specs.Estimate.{estimate_of};
 ghost use Rattle.writer_estimate.specs.EstimateAnswers.{estimate_says};
 ghost use Rattle.replay_calls.specs.RecordedCalls.{step_of, kind_of, side_at, begun, cue_in, push_in, made_as, lengths_of, estimate_in};
@@ -97,7 +97,7 @@ fn side(s: &[u8], at: usize) -> ChannelBlock
 // Begin on the slot as it stands.
 #[tactic(auto, unfolding(crate::specs::RecordedCalls::begun))]
 fn make_begin(step: &[u8], lent: &mut [u8]) -> Called
-    ensures value { result ≡ called (begun step.now lent.old) }
+    ensures value { called_says result ≡ called (begun step.now lent.old) }
     ensures lent_after { lent.new ≡ (begun step.now lent.old).lent }
     ensures good { Good result.writer }
 {
@@ -107,7 +107,7 @@ fn make_begin(step: &[u8], lent: &mut [u8]) -> Called
 #[tactic(auto, unfolding(crate::specs::RecordedCalls::cue_in))]
 fn make_cue(step: &[u8], w: HpsWriter) -> Called
     requires { Good w }
-    ensures value { result ≡ called (cue_of w (cue_in step.now)) }
+    ensures value { called_says result ≡ called (cue_of w (cue_in step.now)) }
     ensures good { Good result.writer }
 {
     cue(
@@ -123,7 +123,7 @@ fn make_cue(step: &[u8], w: HpsWriter) -> Called
 #[tactic(auto, unfolding(crate::specs::RecordedCalls::push_in))]
 fn make_push(step: &[u8], w: HpsWriter, lent: &mut [u8]) -> Called
     requires { Good w }
-    ensures value { result ≡ called (push_of w (push_in step.now) lent.old) }
+    ensures value { called_says result ≡ called (push_of w (push_in step.now) lent.old) }
     ensures lent_after { lent.new ≡ (push_of w (push_in step.now) lent.old).lent }
     ensures good { Good result.writer }
 {
@@ -144,7 +144,7 @@ fn make_push(step: &[u8], w: HpsWriter, lent: &mut [u8]) -> Called
 #[tactic(auto, unfolding(crate::specs::RecordedCalls::made_as))]
 pub fn make(step: &[u8], w: HpsWriter, lent: &mut [u8]) -> Called
     requires { Good w }
-    ensures value { result ≡ called (made_as step.now w lent.old) }
+    ensures value { called_says result ≡ called (made_as step.now w lent.old) }
     ensures lent_after { lent.new ≡ (made_as step.now w lent.old).lent }
     ensures good { Good result.writer }
 {

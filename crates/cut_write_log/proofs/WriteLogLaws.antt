@@ -213,6 +213,24 @@ module _ {j : WriteLog} {logged lent : List ℕ} where
   unfolding sizes sum handed writes_in
   logs_none l = record { count = omega arith; total = omega arith; put = sym (put_at-none logged j.total); listed = l; is = sym (append-nil _) }
 
+  pub logs_then : {ps qs : List Place} {q r : WriteLog} {k₁ k₂ : List ℕ} {n : ℕ} → n ≡ sizes ps → sizes (ps ++ qs) ≤ length lent → Logs j logged lent ps q k₁ → Logs q k₁ (drop n lent) qs r k₂
+      → Logs j logged lent (ps ++ qs) r k₂
+  logs_then {ps} {qs} {q} {r} {k₁} {k₂} {n} e room a b =
+      let vs = handed (writes_in ps lent) in
+      let ws = handed (writes_in qs (drop n lent)) in
+      let both = sizes_join ps qs in
+      let m : length vs ≡ sizes ps = writes-handed ps lent (omega arith) in
+      let o : length ws ≡ sizes qs = writes-handed qs (drop n lent) (omega (arith, length-drop n lent)) in
+      let t : q.total ≡ j.total + length vs = omega (arith, a.total) in
+      let fit : j.total + length (vs ++ ws) ≤ length logged = omega (arith, length-append vs ws, a.total, b.total, b.listed.inside, logs_long b, logs_long a) in
+      record {
+        count = omega (arith, a.count, b.count, length-append ps qs);
+        total = omega (arith, a.total, b.total, sizes_join ps qs);
+        put = b.put ∙ rw (a.put, t, put_at-next logged j.total vs ws fit, e, ← handed_join (writes_in ps lent) (writes_in qs (drop (sizes ps) lent)), ← writes_join ps qs lent);
+        listed = b.listed;
+        is = b.is ∙ rw (a.is, e, writes_join ps qs lent, append_assoc);
+      }
+
   -- What is room for all is room for the others after the first.
   room_then : {ps : List Place} (qs : List Place) {q : WriteLog} {k : List ℕ} {n : ℕ} → n ≡ sizes ps → Logs j logged lent ps q k → Room j logged lent (ps ++ qs) → Room q k (drop n lent) qs
   room_then {ps} qs {n = n} e a r =

@@ -35,7 +35,6 @@ copied b s h =
 
 -- Put into a longer one: its first bytes.
 module _ (b s : List ℕ) {c : List ℕ} (h : length s ≤ length b) (e : c ≡ put_at b 0 s) where
-
   pub copy_first : take (length s) c ≡ s
   copy_first = rw (e, put_at_in b 0 s (omega arith)) (take_at s (drop (0 + length s) b) (length s) refl)
 

@@ -53,7 +53,7 @@ fn log_room() -> [u8; LOG_SIZE]
 fn print_slot<W: Write>(to: &mut W, earlier: &[u8], text: &[u8], moment: usize, slot: &[u8])
     requires { slot.now ≡ slot_of earlier.now text.now moment }
 {
-    print_listing(to, slot);
+    let _ = print_listing(to, slot);
 }
 
 fn report_last<E: Write>(err: &mut E, last: usize) {

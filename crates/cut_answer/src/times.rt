@@ -26,7 +26,7 @@ fn print_run<W: Write>(
     requires { MomentRun earlier.now text.now from last (listing slot.now) }
 {
     print_line(to, time_line(from, last));
-    print_listing(to, slot);
+    let _ = print_listing(to, slot);
 }
 
 // Where a run ends that starts at a moment; the other buffer has the slot at its start. The slot goes on to the moment after it.

@@ -75,7 +75,7 @@ refused_log o g h = rw (refused_places o.reply h)
 abbrev Leaves : (slot : ℕ) → (s logged : List ℕ) → Option WriteLog → List ℕ → Type 0
 Leaves slot s logged q k = (q ≡ accepted_log (begin_refused slot s) (begun_log slot s logged).log) × (k ≡ (begun_log slot s logged).bytes)
 
-module _ (slot : ℕ) (logged : List ℕ) {n : ℕ} {s line : List ℕ} {st : Start} {b : BeginLine} {r : Bool} {m : Made} {after : List ℕ} (start : Starts s key_limit st)
+module _ (slot : ℕ) (logged : List ℕ) (m : Made) {n : ℕ} {s line : List ℕ} {st : Start} {b : BeginLine} {r : Bool} {after : List ℕ} (start : Starts s key_limit st)
     (el : line ≡ line_of (drop st.at s)) (eb : b ≡ begin_line line) (en : n ≡ begun_length slot) (made : CallMade (begin_by n b st) (logging empty_log logged) m after)
     (er : r ≡ is_err m.answer) where
   is-begins : begin_by n b st ≡ begins slot s

@@ -71,7 +71,7 @@ module _ (l z : List ℕ) {w b : List ℕ} {n : ℕ} (short : length l ≤ scrip
 
 -- ---- Push
 
-module _ (w : HpsWriter) (lent : List ℕ) (g : Logging) {m : Made} {after : List ℕ} where
+module _ (w : HpsWriter) (lent : List ℕ) (g : Logging) (m : Made) {after : List ℕ} where
   pub sides_made : (p : PushLine) (left right : List ℕ) {x y : ChannelBlock} {d f : List ℕ} → x ≡ channel_block left → y ≡ channel_block right → d ≡ bytes_said (data_word left)
       → f ≡ bytes_said (data_word right)
       → CallMade (push_of w (push_args p.channels x y d f p.last) lent) g m after → CallMade (push_of w (push_with p left right) lent) g m after

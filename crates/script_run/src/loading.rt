@@ -120,11 +120,7 @@ fn load_rest<W: Write>(
 }
 
 // Tells begin's call: its refusal in every case, since it is the whole answer then.
-fn report_begin<W: Write>(
-    v: &mut Output<'_, W>,
-    answer: Result<Writes, Refusal>,
-    log: WriteLog,
-) {
+fn report_begin<W: Write>(v: &mut Output<'_, W>, answer: Result<Writes, Refusal>, log: WriteLog) {
     if v.verbose || answer.is_err() {
         report_call(v.to, 0, answer, log, 0);
     }

@@ -14,6 +14,6 @@ push_sides-requires c = record {
 }
 
 pub returns : goal.returns
-returns c = push_made _ _ _ _ _ c.push_line-p.ensures
+returns c = push_made _ _ _ c.push_sides.result _ _ c.push_line-p.ensures
     (c.line_at.ensures ∙ c.sides_from-sides.ensures.s_value)
     (c.line_at-2.ensures ∙ c.sides_from-sides.ensures.s_value_2) c.push_sides.ensures

@@ -34,7 +34,7 @@ push_logged-requires c = c.requires.good
 
 pub returns : goal.returns
 returns c =
-    sides_made _ _ _ _ _ _ c.channel_line.ensures
+    sides_made _ _ _ c.push_logged.result _ _ _ c.channel_line.ensures
     c.channel_line-2.ensures
     (data_is _ _ c.requires.left_len_bound.0 c.data_word.ensures c.data_room-left_data.ensures c.put_data-n.ensures.out_after c.put_data-n.ensures.value)
     (data_is _ _ c.requires.left_len_bound.1 c.data_word-2.ensures c.data_room-right_data.ensures c.put_data-m.ensures.out_after

@@ -9,7 +9,9 @@ use Rattle.c_record.specs.KeptWriter.{stream_in}
 use Rattle.c_record_put.specs.KeptRecord.{record_bytes, pushed_bytes}
 use Rattle.c_record_put.specs.KeptTable.{table_put}
 use Rattle.writer.specs.Calls.{Reply}
+use Rattle.layout.specs.declared.refusal.Refusal.{Refusal}
 use Rattle.writer.specs.declared.Place.{Place}
+use Rattle.writer.specs.declared.Writes.{Writes}
 use Rattle.c_opened.specs.declared.failure.Failure.{Failure}
 use Rattle.c_opened.specs.Failures.{failure_number}
 use Rattle.c_record.specs.KeptSides.{loader_size}
@@ -41,12 +43,12 @@ abbrev pub numbered : Result Place Failure → Type 0
 numbered (Ok p) = Unit {0}
 numbered (Err e) = failure_number e ≡ 0 → ⊥
 
--- The place of a reply's one write, or the finished length.
-abbrev pub place_in : Reply → Result Place Failure
-place_in (Reply.Refused n) = Err (Failure.Refused n)
-place_in Reply.NoWrite = Ok (record { offset = 0; length = 0 })
-place_in (Reply.OneWrite p) = Ok p
-place_in (Reply.ThreeWrites n p q r) = Ok (record { offset = 0; length = n })
+-- The place of an answer's one write, or the finished length.
+abbrev pub place_in : Result Writes Refusal → Result Place Failure
+place_in (Err r) = Err (Failure.Refused r)
+place_in (Ok Writes.None) = Ok (record { offset = 0; length = 0 })
+place_in (Ok (Writes.One p)) = Ok p
+place_in (Ok (Writes.Three n p q r)) = Ok (record { offset = 0; length = n })
 
 abbrev pub call_of : Outcome → KeptCall
 call_of o = call_in o.reply

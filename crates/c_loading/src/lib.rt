@@ -3,7 +3,7 @@
 
 ghost use Rattle.std.specs.Prelude.{◌≡◌};
 ghost use Rattle.writer.specs.Loading.{mode_of};
-ghost use Rattle.writer.specs.Calls.{reply_says, begin_of, cue_of, finish_of};
+ghost use Rattle.writer.specs.Calls.{begin_of, cue_of, finish_of};
 ghost use Rattle.c_record.specs.KeptWriter.{writer_in};
 ghost use Rattle.c_loading.specs.KeptLoading.{kept_says, numbered, place_in, call_of, where_room, on_kept, given_after, bytes_begun, bytes_cued, bytes_finished};
 
@@ -21,7 +21,7 @@ use writer_finish::finish;
 
 // What an accepted reply hands out: the place of its one write, or as the length the finished one.
 fn place_in(answer: Result<Writes, Refusal>) -> Result<Place, Failure>
-    ensures { result ≡ place_in (reply_says answer) }
+    ensures { result ≡ place_in answer }
 {
     Ok(match answer? {
         Writes::None => Place {

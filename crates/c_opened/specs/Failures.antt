@@ -1,10 +1,11 @@
 -- Why a call on lent bytes gives nothing, and its number in the C library.
 use Rattle.std.specs.Prelude.{ℕ, Result, Ok, Err}
+use Rattle.layout.specs.Answers.{number_of}
 use Rattle.c_opened.specs.declared.failure.Failure.{Failure}
 use Rattle.c_opened.specs.declared.failure.Failure.TheVariants.{Refused, End, NoRecord, NoKind, NoRoom, NoSide}
 
 abbrev pub failure_number : Failure → ℕ
-failure_number (Refused n) = n
+failure_number (Refused r) = number_of r
 failure_number End = 255
 failure_number NoRecord = 254
 failure_number NoKind = 253

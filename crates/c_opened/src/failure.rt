@@ -1,6 +1,5 @@
 // Why a call on lent bytes gives nothing: it is refused, has come to the end, or was lent what it cannot use.
 ghost use Rattle.std.specs.Prelude.{◌≡◌};
-ghost use Rattle.layout.specs.Answers.{number_of};
 ghost use Rattle.c_opened.specs.Failures.{failure_number};
 ghost use Rattle.c_opened.specs.declared.failure.Failure.TheVariants.{Refused};
 
@@ -9,8 +8,8 @@ use layout::refusal::Refusal;
 
 #[derive(Clone, Copy, Debug, PartialEq, Eq)]
 pub enum Failure {
-    // With this number, by document 01 or 02.
-    Refused(u32),
+    // By document 01 or 02.
+    Refused(Refusal),
     // A reading call has come to the end.
     End,
     // The lent bytes are no record.
@@ -28,7 +27,7 @@ impl From<Failure> for u32 {
 
     fn from(failure: Failure) -> u32 {
         match failure {
-            Failure::Refused(number) => number,
+            Failure::Refused(reason) => u32::from(reason),
             Failure::End => END,
             Failure::NoRecord => NO_RECORD,
             Failure::NoKind => NO_KIND,
@@ -39,9 +38,9 @@ impl From<Failure> for u32 {
 }
 
 impl From<Refusal> for Failure {
-    ghost from_gives = { λ refusal failure. failure ≡ Refused (number_of refusal) };
+    ghost from_gives = { λ refusal failure. failure ≡ Refused refusal };
 
     fn from(refusal: Refusal) -> Failure {
-        Failure::Refused(u32::from(refusal))
+        Failure::Refused(refusal)
     }
 }

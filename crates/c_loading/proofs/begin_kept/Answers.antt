@@ -1,12 +1,12 @@
 use mathlib.Core.Path.{◌≡◌, ap, ◌∙◌}
 use native.Mathlib.Omega.{arith}
 use lib.ListN.{length}
-use Rattle.std.proofs.Common.{Err}
 use Rattle.layout.specs.Puts.{put_at}
 use Rattle.writer.specs.Loading.{mode_of}
 use Rattle.writer.specs.Calls.{Replied, called, called_says, begin_of, Outcome}
 use Rattle.writer.specs.declared.Looping.{Looping}
-use Rattle.c_loading.specs.KeptLoading.{place_in, bytes_begun}
+use Rattle.c_opened.specs.Failures.{failure_number}
+use Rattle.c_loading.specs.KeptLoading.{bytes_begun}
 use Rattle.c_record.specs.Fields.{fields_of}
 use Rattle.c_record.specs.declared.Fields.{Fields}
 use Rattle.c_record.specs.KeptWriter.{writer_in}
@@ -30,25 +30,27 @@ told c =
       c.begin-call.ensures.lent_after ∙ ap (λ (x : Looping). (begin_of a.slot a.channels x a.lent.now).lent) m,
     )
 
-refused : (c : After-from_residual-in_err-place) → Err c.in_err-place.field-0.0 ≡ place_in (begin_of c.args.slot c.args.channels (mode_of c.args.mode) c.args.lent.now).reply
-refused c = c.in_err-place.ensures ∙ ap (λ (q : Replied). place_in q.reply) (told (goal.at.returns-in_err-place-clause-kept_after c).After-begin-call).0
+refused : (c : After-from_residual-in_err-place) → (failure_number c.in_err-place.field-0.0 ≡ 0 → ⊥) × ((begin_of c.args.slot c.args.channels (mode_of c.args.mode) c.args.lent.now).lent ≡ c.args.lent.now)
+refused c =
+    let call = (told (goal.at.returns-in_err-place-clause-kept_after c).After-begin-call).0 in
+    begin_err c.args.slot c.args.channels (mode_of c.args.mode) c.args.lent.now _ _ c.in_err-place.ensures (ap (λ (q : Replied). q.reply) call)
 
 pub returns-in_err-place-clause-lent_after : goal.returns-in_err-place-clause-lent_after
 returns-in_err-place-clause-lent_after c =
-    let z = begin_err c.args.slot c.args.channels (mode_of c.args.mode) c.args.lent.now _ (refused c) in
+    let z = refused c in
     (told (goal.at.returns-in_err-place-clause-kept_after c).After-begin-call).1 ∙ z.1 ∙ left_err _ _ _ _ c.from_residual-in_err-place.ensures.1 z.0
 
 pub returns-in_err-place-clause-fails : goal.returns-in_err-place-clause-fails
 returns-in_err-place-clause-fails c =
-    numbered_err _ _ c.from_residual-in_err-place.ensures.1 (begin_err c.args.slot c.args.channels (mode_of c.args.mode) c.args.lent.now _ (refused c)).0
+    numbered_err _ _ c.from_residual-in_err-place.ensures.1 (refused c).0
 
 pub returns-in_err-place-clause-kept_after : goal.returns-in_err-place-clause-kept_after
 returns-in_err-place-clause-kept_after c =
-    left_err _ _ _ _ c.from_residual-in_err-place.ensures.1 (begin_err c.args.slot c.args.channels (mode_of c.args.mode) c.args.lent.now _ (refused c)).0
+    left_err _ _ _ _ c.from_residual-in_err-place.ensures.1 (refused c).0
 
 pub returns-in_err-place-clause-kept_after_2 : goal.returns-in_err-place-clause-kept_after_2
 returns-in_err-place-clause-kept_after_2 c =
-    left_err _ _ _ _ c.from_residual-in_err-place.ensures.1 (begin_err c.args.slot c.args.channels (mode_of c.args.mode) c.args.lent.now _ (refused c)).0
+    left_err _ _ _ _ c.from_residual-in_err-place.ensures.1 (refused c).0
 
 put : (c : After-put_sides) → c.put_sides.new.kept ≡ bytes_begun c.args.kept.now (begin_of c.args.slot c.args.channels (mode_of c.args.mode) c.args.lent.now)
 put c =
@@ -71,5 +73,5 @@ pub returns-clause-kept_after_2 : goal.returns-clause-kept_after_2
 returns-clause-kept_after_2 c =
     let a = c.args in
     let call = (told (goal.at.returns-clause-kept_after_2 c).After-begin-call).0 in
-    let due = begin_ok a.slot a.channels (mode_of a.mode) a.lent.now _ (c.in_ok-place.ensures ∙ ap (λ (q : Replied). place_in q.reply) call) in
+    let due = begin_ok a.slot a.channels (mode_of a.mode) a.lent.now _ _ c.in_ok-place.ensures (ap (λ (q : Replied). q.reply) call) in
     ap writer_in (put (goal.at.returns-clause-kept_after_2 c).After-put_sides) ∙ begin-after a.kept.now a.slot a.channels (mode_of a.mode) a.lent.now c.if-kept-lt-LOADER_SIZE.false c.ranges.channels.fits due

@@ -4,7 +4,6 @@ use Rattle.writer.specs.Calls.{Replied, called, called_says, cue_of, Outcome}
 use Rattle.writer.specs.declared.HpsWriter.{HpsWriter}
 use Rattle.c_record.proofs.KeptLaws.{kept_good, held_gives}
 use Rattle.c_opened.specs.Failures.{failure_number}
-use Rattle.c_loading.specs.KeptLoading.{place_in}
 use Rattle.c_loading.proofs.CallLaws.{left_err, cue_err}
 use Rattle.c_loading.proofs.AfterLaws.{holds, cue-after}
 use Rattle.c_loading.proofs.cue_kept.Goals as goal
@@ -25,7 +24,7 @@ told : (c : After-cue-call) → called_says c.cue-call.result ≡ called (cued c
 told c = c.cue-call.ensures.value ∙ ap (λ (m : HpsWriter). called (cue_of m c.args.c)) (held_gives (stream_in c.args.kept.now) _ _ c.in_ok-w.ensures).0
 
 refused : (c : After-from_residual-in_err-place) → failure_number c.in_err-place.field-0.0 ≡ 0 → ⊥
-refused c = cue_err (writer_in c.args.kept.now) c.args.c _ (c.in_err-place.ensures ∙ ap (λ (q : Replied). place_in q.reply) (told (goal.at.returns-in_err-place-clause-kept_after c).After-cue-call))
+refused c = cue_err (writer_in c.args.kept.now) c.args.c _ _ c.in_err-place.ensures (ap (λ (q : Replied). q.reply) (told (goal.at.returns-in_err-place-clause-kept_after c).After-cue-call))
 
 pub returns-in_err-place-clause-kept_after : goal.returns-in_err-place-clause-kept_after
 returns-in_err-place-clause-kept_after c = left_err _ _ _ _ c.from_residual-in_err-place.ensures.1 (refused c)

@@ -4,6 +4,8 @@ use mathlib.Core.Bool.{Bool}
 use Rattle.std.proofs.Common.{Ok, Err, Result, Option, Some, None, IfSome}
 use Rattle.layout.specs.Answers.{number_of}
 use Rattle.layout.specs.declared.refusal.Refusal.{Refusal}
+use Rattle.layout.proofs.FieldLaws.{passed_on}
+use Rattle.writer.specs.declared.Writes.{Writes}
 use borrow.Author.Tests.{eqb-false}
 use Rattle.writer.proofs.DueLaws.{not_zero}
 use Rattle.writer_push_plan.specs.declared.Plan.{Plan}
@@ -25,8 +27,8 @@ use Rattle.c_record.specs.KeptWriter.{stream_in, writer_in, taken_in, held_in}
 use Rattle.c_record.proofs.KeptLaws.{kept_good, held_gives, loop-same}
 use Rattle.writer.proofs.GoodLaws.{parts_good}
 use Rattle.writer_push.proofs.PushLaws.{push_refused, push_nothing, push_accepted, to_within, are_taken, Worked, due-is, some_block, no_block, totals, sized, room, bytes_are}
-use Rattle.c_loading.specs.KeptLoading.{kept_says, place_in, where_written}
-use Rattle.c_loading.proofs.CallLaws.{told_on, numbered_err, some_says, left_err}
+use Rattle.c_loading.specs.KeptLoading.{kept_says, where_written}
+use Rattle.c_loading.proofs.CallLaws.{numbered_err, some_says, left_err}
 use Rattle.c_record_put.specs.KeptRecord.{pushed_bytes}
 use Rattle.c_loading.proofs.AfterLaws.{holds}
 use Rattle.c_loading.proofs.BackLaws.{SideFits}
@@ -134,7 +136,7 @@ returns-in_err-planned-clause-given c =
     let told = c.from_residual-in_err-planned.ensures.1 in
     let w = worked (goal.at.returns-in_err-planned-clause-given c).After-plan_push (Err x) (sym c.in_err-planned.was) in
     let q = push_refused (writer_in k) p c.args.lent.now (number_of x) (due-is w) h _ refl in (
-      ap kept_says (told_on _ _ told) ∙ some_says k (push_of (writer_in k) p c.args.lent.now) e _ (ap (λ (y : Replied). place_in y.reply) q.0),
+      ap kept_says (passed_on _ _ told) ∙ some_says k (push_of (writer_in k) p c.args.lent.now) e _ (Err x) refl (ap (λ (y : Replied). y.reply) q.0),
       left_err _ _ _ _ told h,
       left_err _ _ _ _ told h,
       left_err _ _ _ _ told h,
@@ -153,7 +155,7 @@ returns-in_default-clause-given c =
     let k = c.args.kept.now in
     let w = worked (goal.at.returns-in_default-clause-given c).After-plan_push (Ok None) (planned-is c.in_ok-planned.was c.in_default.is) in
     let q = push_nothing (writer_in k) p c.args.lent.now 0 (due-is w) refl (no_block w refl refl) in (
-      some_says k (push_of (writer_in k) p c.args.lent.now) e _ (ap (λ (x : Replied). place_in x.reply) q.0),
+      some_says k (push_of (writer_in k) p c.args.lent.now) e _ (Ok Writes.None) refl (ap (λ (x : Replied). x.reply) q.0),
       q.1,
       ap (λ (x : Replied). where_written x.reply (put_at k 0 (pushed_bytes (fields_of x.writer))) k) q.0,
       ap (λ (x : Replied). x.writer) q.0,
@@ -189,7 +191,7 @@ returns-clause-given c =
     ∙ ap (λ (m : Fields). put_at c.put_header.new.buf 32 (filled_bytes m.stream.base m.stream.id (slice m.stream.next taken-to (table_in k cues_at m.count)))) is in
     let b = bytes_are w refl n _ _ _ c.put_header.ensures put c.put_data.ensures in
     let q = push_accepted (writer_in k) (pushed s) c.args.lent.now _ (due-is w) refl n _ _ _ refl (sized w refl n) (room w refl n).1 b in
-    let r = some_says k (push_of (writer_in k) (pushed s) c.args.lent.now) e _ (ap (λ (x : Replied). place_in x.reply) q.0) in
+    let r = some_says k (push_of (writer_in k) (pushed s) c.args.lent.now) e _ (Ok (Writes.One _)) refl (ap (λ (x : Replied). x.reply) q.0) in
     let after = c.put_pushed.ensures ∙ ap (λ (m : Fields). put_at k 0 (pushed_bytes (fields_with m c.in-Some.plan.after))) is in
     let long : (stream_in k).setup.channels < 18446744073709551616 = omega (arith, channels (goal.at.returns-clause-given c).In_ok-f, ap (λ (m : Fields). m.setup.channels) is) in
     let stays = push_stream k e w refl n (left-fits s) (right_fits s) long in (

@@ -67,7 +67,7 @@ pub fn channel_line(line: &[u8]) -> ChannelBlock
     }
 }
 
-pub(crate) fn says_channel(line: &[u8]) -> bool
+pub fn says_channel(line: &[u8]) -> bool
     ensures { result ≡ says_channel line.now }
 {
     says_number(line, 1, u32::MAX as u64)

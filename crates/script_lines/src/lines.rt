@@ -23,26 +23,26 @@ pub struct PushLine {
 }
 
 // A word as a decimal of at most max.
-pub(crate) fn number_at(line: &[u8], i: usize, max: u64) -> u64
+pub fn number_at(line: &[u8], i: usize, max: u64) -> u64
     ensures { (result ≡ number_at line.now i max) × (result ≤ max) }
 {
     unsigned(word(line, i), max).unwrap_or(0)
 }
 
-pub(crate) fn says_number(line: &[u8], i: usize, max: u64) -> bool
+pub fn says_number(line: &[u8], i: usize, max: u64) -> bool
     ensures { result ≡ says_number line.now i max }
 {
     unsigned(word(line, i), max).is_some()
 }
 
 // A word as a decimal of -32,768 to 32,767.
-pub(crate) fn signed_at(line: &[u8], i: usize) -> i16
+pub fn signed_at(line: &[u8], i: usize) -> i16
     ensures { result ≡ signed_at line.now i }
 {
     signed(word(line, i)).unwrap_or(0)
 }
 
-pub(crate) fn says_signed(line: &[u8], i: usize) -> bool
+pub fn says_signed(line: &[u8], i: usize) -> bool
     ensures { result ≡ says_signed line.now i }
 {
     signed(word(line, i)).is_some()
@@ -68,7 +68,7 @@ pub fn begin_line(line: &[u8]) -> BeginLine
     }
 }
 
-pub(crate) fn says_begin(line: &[u8]) -> bool
+pub fn says_begin(line: &[u8]) -> bool
     ensures { result ≡ says_begin line.now }
 {
     says_number(line, 1, u64::MAX) && says_number(line, 2, 2)
@@ -104,7 +104,7 @@ fn says_named(line: &[u8], name: usize) -> bool
     says_number(line, 1, u64::MAX) && says_number(line, name, u32::MAX as u64)
 }
 
-pub(crate) fn says_cue(line: &[u8], kind: Kind) -> bool
+pub fn says_cue(line: &[u8], kind: Kind) -> bool
     ensures { result ≡ says_cue line.now kind }
 {
     match kind {
@@ -123,7 +123,7 @@ pub fn push_line(line: &[u8]) -> PushLine
     }
 }
 
-pub(crate) fn says_push(line: &[u8]) -> bool
+pub fn says_push(line: &[u8]) -> bool
     ensures { result ≡ says_push line.now }
 {
     says_number(line, 1, u64::MAX) && says_number(line, 2, 1)
@@ -136,7 +136,7 @@ pub fn lent_line(line: &[u8]) -> u64
     number_at(line, 1, u64::MAX)
 }
 
-pub(crate) fn says_lent(line: &[u8]) -> bool
+pub fn says_lent(line: &[u8]) -> bool
     ensures { result ≡ says_lent line.now }
 {
     says_number(line, 1, u64::MAX)

@@ -17,8 +17,7 @@ use Rattle.reader.specs.OpeningAndReading.{channel_in}
 use Rattle.reader_cues.specs.CueAnswers.{PartsOf}
 use Rattle.c_opened.specs.KeptReader.{reader_in}
 use Rattle.c_opened.proofs.KeptReads.{part_shape}
-use Rattle.c_cues.specs.KeptCues.{cursor_in, cursor_bytes, put_cursor, CuesGiven, cues_given, given_of, CuesLent, cues_on, number_after, cues_number, gives_cues, cues_lent}
-use Rattle.c_cues.specs.declared.CuesFilled.{CuesFilled}
+use Rattle.c_cues.specs.KeptCues.{cursor_in, cursor_bytes, put_cursor, CuesGiven, cues_given, given_of, CuesCounted, CuesLent, cues_on, number_after, cues_number, gives_cues, cues_lent}
 use Rattle.c_cues.proofs.CursorLaws.{cursor-put}
 use Rattle.c_cues.proofs.FillLaws.{none-given}
 use Rattle.layout.specs.Refusals.{block_limit}
@@ -37,6 +36,23 @@ module _ (kept : List ℕ) (r : HpsReader) (e : r ≡ reader_in kept) where
       record { readable = rw e s.readable; two = rw e s.channels; table = rw e s.offsets; offsets = refl; blocks = refl; start = refl; format = h }
 
 -- ---- Their number
+
+-- after cues all but the end is left to the next call
+pub left_to_next : (k n : ℕ) → (k ≡ 0 → ⊥) → gives_cues n ≡ false → 0 ≡ number_after k n
+unfolding number_after
+left_to_next k n h g = by_cases (eqb n 255) (λ t. by_cases (eqb n 0) (λ u. apart (rw u at g)) (λ u. apart (rw (u, t) at g))) (λ t. rw (ne_eqb k 0 h, t))
+
+pub first_told : (k n : ℕ) → k ≤ 0 → n ≡ number_after k n
+unfolding number_after
+first_told k n h = rw (eq-eqb k 0 (omega arith))
+
+pub given-told : (k n : ℕ) → gives_cues n ≡ true → n ≡ number_after k n
+unfolding number_after
+given-told k n g =
+    by_cases (eqb k 0) (λ t. rw t)
+    (λ t.
+    by_cases (eqb n 255) (λ u. rw (t, u) (eqb-true n 255 u))
+    (λ u. by_cases (eqb n 0) (λ v. rw (t, u) (eqb-true n 0 v)) (λ v. apart (sym (rw (v, u) at g)))))
 
 -- a refusal is told only where it comes first
 told_first : (k n : ℕ) → gives_cues (number_after k n) ≡ false → k ≡ 0
@@ -78,7 +94,7 @@ module _ (s kept : List ℕ) (b : CuesLent) where
       unfolding cues_number
       no_room o = leaves 14 (rw (le-ltb (length b.cursor) 32 h, record_there, lt-ltb (length b.out) 16 o)) refl
 
-      module _ (room : 16 ≤ length b.out) (c : CueIterator) (f : c ≡ cursor_in r b.cursor) (x : CuesFilled) (g : x ≡ given_of (cues_given s r (length b.out / 16) c)) {out : List ℕ}
+      module _ (room : 16 ≤ length b.out) (c : CueIterator) (f : c ≡ cursor_in r b.cursor) (x : CuesCounted) (g : x ≡ given_of (cues_given s r (length b.out / 16) c)) {out : List ℕ}
           (i : out ≡ put_at b.out 0 (cues_given s r (length b.out / 16) c).bytes) {n : ℕ} (k : n ≡ number_after x.cues x.number) where
         calls : cues_given s r (length b.out / 16) c ≡ cues_on s kept b
         unfolding cues_on
@@ -91,11 +107,11 @@ module _ (s kept : List ℕ) (b : CuesLent) where
         unfolding cues_number
         number =
             rw (le-ltb (length b.cursor) 32 h, record_there, le-ltb (length b.out) 16 room)
-            (k ∙ ap (λ (y : CuesFilled). number_after y.cues y.number) is)
+            (k ∙ ap (λ (y : CuesCounted). number_after y.cues y.number) is)
 
         pub left : gives_cues n ≡ false → Given n (record { cursor = b.cursor; out = out; cues = b.cues })
         left t =
-            let z : (cues_given s r (length b.out / 16) c).count ≡ 0 = sym (ap (λ (y : CuesFilled). y.cues) g) ∙ told_first x.cues x.number (ap gives_cues (sym k) ∙ t) in
+            let z : (cues_given s r (length b.out / 16) c).count ≡ 0 = sym (ap (λ (y : CuesCounted). y.cues) g) ∙ told_first x.cues x.number (ap gives_cues (sym k) ∙ t) in
             let o : out ≡ b.out = i ∙ ap (put_at b.out 0) (none-given s r (length b.out / 16) c z) ∙ put_at-none b.out 0 in
             rw o (leaves n number t)
 
@@ -103,5 +119,5 @@ module _ (s kept : List ℕ) (b : CuesLent) where
         gave {cur} j t =
             let o : out ≡ put_at b.out 0 (cues_on s kept b).bytes = i ∙ ap (λ (y : CuesGiven). put_at b.out 0 y.bytes) calls in
             let l : cur ≡ put_at b.cursor 0 (cursor_bytes (cues_on s kept b).after) =
-            j ∙ cursor-put b.cursor x.cursor (omega arith) ∙ ap (λ (y : CuesFilled). put_at b.cursor 0 (cursor_bytes y.cursor)) is in
-            rw (o, l, ap (λ (y : CuesFilled). y.cues) is) (gives n number t)
+            j ∙ cursor-put b.cursor x.cursor (omega arith) ∙ ap (λ (y : CuesCounted). put_at b.cursor 0 (cursor_bytes y.cursor)) is in
+            rw (o, l, ap (λ (y : CuesCounted). y.cues) is) (gives n number t)

@@ -1,5 +1,5 @@
 -- As many cue calls as there is room for: the loop's invariant, and what each way out of it gives.
-use Rattle.std.proofs.Common.{Option, Ok, Err}
+use Rattle.std.proofs.Common.{Option, Some, None, Result, Ok, Err}
 use Rattle.c_opened.specs.declared.failure.Failure.{Failure}
 use Rattle.c_opened.specs.Failures.{failure_number}
 use Prim.Native.Nat.{ℕ, zero, suc, ◌+◌, ◌*◌, ◌-◌, ◌/◌, ◌≤◌, ◌<◌}
@@ -15,9 +15,11 @@ use Rattle.reader.specs.declared.HpsReader.{HpsReader}
 use Rattle.reader.specs.declared.CueIterator.{CueIterator}
 use Rattle.reader.specs.CuesReadBack.{CueAnswer, CueStep, cue_step}
 use Rattle.reader_cues.specs.declared.CueCall.{CueCall}
+use Rattle.reader_cues.specs.declared.ReadCue.{ReadCue}
+use Rattle.layout.specs.Answers.{number_of}
+use Rattle.layout.specs.declared.refusal.Refusal.{Refusal}
 use Rattle.reader_cues.specs.CueAnswers.{cue_says, cue_called, PartsOf}
-use Rattle.c_cues.specs.KeptCues.{CuesGiven, no_cue_given, ahead, one_cue, cues_given, filled_of, given_of}
-use Rattle.c_cues.specs.declared.CuesFilled.{CuesFilled}
+use Rattle.c_cues.specs.KeptCues.{CuesCounted, CuesGiven, no_cue_given, ahead, one_cue, cues_given, filled_of, given_of}
 use Rattle.c_cues.specs.CueBytes.{cue_kept, answered, answer_put}
 use Rattle.c_cues.proofs.CueBytesLaws.{cue-long, cue-put}
 
@@ -102,36 +104,32 @@ module _ (s : List ℕ) (r : HpsReader) (from : CueIterator) (before out : List 
     room : at + 16 ≤ length out
     room = omega (arith, m.same)
 
-    more_of : (a : CueAnswer) → (cue_step s r c).answer ≡ a → {u : Unit {0}} {l : List ℕ} → Ok u ≡ answered a → l ≡ answer_put out at a
+    more_of : (v : Result (Option ReadCue) Refusal) → (cue_step s r c).answer ≡ cue_says v → {u : Unit {0}} {l : List ℕ} → Ok u ≡ answered v → l ≡ answer_put out at (cue_says v)
         → Filling s r from before l (cue_step s r c).after (cues + 1) (at + 16)
-    more_of (CueAnswer.refused k) e f g = cc
-    more_of CueAnswer.ended e f g = cc
-    more_of (CueAnswer.loop b) e f g = given b 1 0 (step ∙ rw e) (g ∙ cue-put out at b 1 0 room)
-    more_of (CueAnswer.point b k) e f g = given b 0 k (step ∙ rw e) (g ∙ cue-put out at b 0 k room)
+    more_of (Err k) e f g = cc
+    more_of (Ok None) e f g = cc
+    more_of (Ok (Some (ReadCue.Loop b))) e f g = given b 1 0 (step ∙ rw e) (g ∙ cue-put out at b 1 0 room)
+    more_of (Ok (Some (ReadCue.Point b k))) e f g = given b 0 k (step ∙ rw e) (g ∙ cue-put out at b 0 k room)
 
-    last_of : (a : CueAnswer) → (cue_step s r c).answer ≡ a → (x : Failure) {l : List ℕ} → Err x ≡ answered a → l ≡ answer_put out at a
+    last_of : (v : Result (Option ReadCue) Refusal) → (cue_step s r c).answer ≡ cue_says v → (x : Failure) {l : List ℕ} → Err x ≡ answered v → l ≡ answer_put out at (cue_says v)
         → (filled_of (failure_number x) cues (cue_step s r c).after ≡ given_of (cues_given s r (length before / 16) from)) × (l ≡ put_at before 0 (cues_given s r (length before / 16) from).bytes)
-    last_of (CueAnswer.refused k) e x f g = let y : x ≡ Failure.Refused k = cc in let w = last k (cue_step s r c).after (step ∙ rw e) in (rw y w.0, g ∙ w.1)
-    last_of CueAnswer.ended e x f g = let y : x ≡ Failure.End = cc in let w = last 255 (cue_step s r c).after (step ∙ rw e) in (rw y w.0, g ∙ w.1)
-    last_of (CueAnswer.loop b) e x f g = cc
-    last_of (CueAnswer.point b k) e x f g = cc
+    last_of (Err k) e x f g = let y : x ≡ Failure.Refused k = cc in let w = last (number_of k) (cue_step s r c).after (step ∙ rw e) in (rw y w.0, g ∙ w.1)
+    last_of (Ok None) e x f g = let y : x ≡ Failure.End = cc in let w = last 255 (cue_step s r c).after (step ∙ rw e) in (rw y w.0, g ∙ w.1)
+    last_of (Ok (Some a)) e x f g = cc
 
     module _ (q : CueCall) (e : cue_called q ≡ cue_step s r c) {l : List ℕ} (g : l ≡ answer_put out at (cue_says q.answer)) where
-      put-is : l ≡ answer_put out at (cue_step s r c).answer
-      put-is = g ∙ ap (λ (x : CueStep). answer_put out at x.answer) e
-
-      answer-is : answered (cue_says q.answer) ≡ answered (cue_step s r c).answer
-      answer-is = ap (λ (x : CueStep). answered x.answer) e
+      answer-is : (cue_step s r c).answer ≡ cue_says q.answer
+      answer-is = sym (ap (λ (x : CueStep). x.answer) e)
 
       after-is : q.cursor ≡ (cue_step s r c).after
       after-is = ap (λ (x : CueStep). x.after) e
 
-      pub filling-more : {u : Unit {0}} → Ok u ≡ answered (cue_says q.answer) → Filling s r from before l q.cursor (cues + 1) (at + 16)
-      filling-more f = rw after-is (more_of (cue_step s r c).answer refl (f ∙ answer-is) put-is)
+      pub filling-more : {u : Unit {0}} → Ok u ≡ answered q.answer → Filling s r from before l q.cursor (cues + 1) (at + 16)
+      filling-more f = rw after-is (more_of q.answer answer-is f g)
 
-      pub filling-last : (x : Failure) → Err x ≡ answered (cue_says q.answer)
+      pub filling-last : (x : Failure) → Err x ≡ answered q.answer
           → (filled_of (failure_number x) cues q.cursor ≡ given_of (cues_given s r (length before / 16) from)) × (l ≡ put_at before 0 (cues_given s r (length before / 16) from).bytes)
-      filling-last x f = rw after-is (last_of (cue_step s r c).answer refl x (f ∙ answer-is) put-is)
+      filling-last x f = rw after-is (last_of q.answer answer-is x f g)
 
 pub room-more : {before out l : List ℕ} {cues at : ℕ} → Room before out cues at → 16 ≤ length before - at → length l ≡ length out → Room before l (cues + 1) (at + 16)
 room-more m h e = let f = m.sixteens in let s = m.same in record { same = e ∙ s; fits = omega arith; sixteens = omega arith }
@@ -139,12 +137,12 @@ room-more m h e = let f = m.sixteens in let s = m.same in record { same = e ∙ 
 -- ---- The same of every record that has these parts
 
 -- what the loop answers
-abbrev pub Filled : (s : List ℕ) (r : HpsReader) (from : CueIterator) (before after : List ℕ) → CuesFilled → Type 0
+abbrev pub Filled : (s : List ℕ) (r : HpsReader) (from : CueIterator) (before after : List ℕ) → CuesCounted → Type 0
 Filled s r from before after x = (x ≡ given_of (cues_given s r (length before / 16) from)) × (after ≡ put_at before 0 (cues_given s r (length before / 16) from).bytes)
 
 module _ (s os : List ℕ) (blocks : ℕ) (start : Option ℕ) (f : DspFormat) (from : CueIterator) (before out : List ℕ) (c : CueIterator) (cues at : ℕ) (m : Room before out cues at)
     (p : (r : HpsReader) → PartsOf r os blocks start f → Filling s r from before out c cues at) where
-  pub all_end : length out - at < 16 → {x : CuesFilled} → x ≡ filled_of 0 cues c → (r : HpsReader) → PartsOf r os blocks start f → Filled s r from before out x
+  pub all_end : length out - at < 16 → {x : CuesCounted} → x ≡ filled_of 0 cues c → (r : HpsReader) → PartsOf r os blocks start f → Filled s r from before out x
   all_end h e r o = let w = no_room s r from before out c cues at m (p r o) (omega (arith, m.same)) in (e ∙ w.0, w.1)
 
   module _ (h : 16 ≤ length out - at) (q : CueCall) (e : (r : HpsReader) → PartsOf r os blocks start f → cue_called q ≡ cue_step s r c) {l : List ℕ}
@@ -152,10 +150,10 @@ module _ (s os : List ℕ) (blocks : ℕ) (start : Option ℕ) (f : DspFormat) (
     room-left : 16 ≤ length before - at
     room-left = omega (arith, m.same)
 
-    pub all_more : {u : Unit {0}} → Ok u ≡ answered (cue_says q.answer) → length l ≡ length out
+    pub all_more : {u : Unit {0}} → Ok u ≡ answered q.answer → length l ≡ length out
         → Room before l (cues + 1) (at + 16) × ((r : HpsReader) → PartsOf r os blocks start f → Filling s r from before l q.cursor (cues + 1) (at + 16))
     all_more z i = (room-more m room-left i, λ r o. filling-more s r from before out c cues at m (p r o) room-left q (e r o) k z)
 
-    pub all-last : (n : Failure) → Err n ≡ answered (cue_says q.answer) → {x : CuesFilled} → x ≡ filled_of (failure_number n) cues q.cursor
+    pub all-last : (n : Failure) → Err n ≡ answered q.answer → {x : CuesCounted} → x ≡ filled_of (failure_number n) cues q.cursor
         → (r : HpsReader) → PartsOf r os blocks start f → Filled s r from before l x
     all-last n z i r o = let w = filling-last s r from before out c cues at m (p r o) room-left q (e r o) k n z in (i ∙ w.0, w.1)

@@ -1,8 +1,10 @@
 -- A cue in bytes, and what a cue call puts there.
-use Rattle.std.specs.Prelude.{ℕ, ◌+◌, List, ◌++◌, Result, Ok, Err}
+use Rattle.std.specs.Prelude.{ℕ, ◌+◌, List, ◌++◌, Option, Some, None, Result, Ok, Err}
 use Rattle.layout.specs.Puts.{put_at}
 use Rattle.layout.specs.Records.{be32}
+use Rattle.layout.specs.declared.refusal.Refusal.{Refusal}
 use Rattle.reader.specs.CuesReadBack.{CueAnswer}
+use Rattle.reader_cues.specs.declared.ReadCue.{ReadCue}
 use Rattle.c_opened.specs.declared.failure.Failure.{Failure}
 use Rattle.c_opened.specs.KeptReader.{be64, put_long}
 
@@ -15,11 +17,10 @@ unfoldable pub put_cue : List ℕ → (at start kind name : ℕ) → List ℕ
 put_cue out at start kind name = put_at (put_at (put_long out at start) (at + 8) (be32 kind)) (at + 12) (be32 name)
 
 -- Whether a cue call gave a cue, and why it gave none.
-abbrev pub answered : CueAnswer → Result (Unit {0}) Failure
-answered (CueAnswer.refused n) = Err (Failure.Refused n)
-answered CueAnswer.ended = Err Failure.End
-answered (CueAnswer.loop start) = Ok tt
-answered (CueAnswer.point start name) = Ok tt
+abbrev pub answered : Result (Option ReadCue) Refusal → Result (Unit {0}) Failure
+answered (Err r) = Err (Failure.Refused r)
+answered (Ok None) = Err Failure.End
+answered (Ok (Some c)) = Ok tt
 
 -- Bytes after a cue call: with the cue where it gave one.
 abbrev pub answer_put : List ℕ → (at : ℕ) → CueAnswer → List ℕ

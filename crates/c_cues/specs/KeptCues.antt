@@ -8,6 +8,7 @@ use Rattle.reader.specs.declared.CueIterator.{CueIterator}
 use Rattle.reader.specs.CuesReadBack.{CueAnswer, cursor, looped, first_cursor, cue_step}
 use Rattle.layout_number_or_zero.specs.NumberOrZero.{word_at, long_at}
 use Rattle.c_opened.specs.KeptReader.{be64, put_long, reader_in}
+use Rattle.c_opened.specs.Failures.{told}
 use Rattle.c_cues.specs.CueBytes.{cue_kept}
 use Rattle.c_cues.specs.declared.CuesFilled.{CuesFilled}
 
@@ -66,13 +67,21 @@ unfoldable pub cues_given : (slot : List ℕ) → HpsReader → (room : ℕ) →
 cues_given s r zero c = no_cue_given 0 c
 cues_given s r (suc n) c = one_cue (cue_step s r c).answer (cue_step s r c).after (cues_given s r n (cue_step s r c).after)
 
--- The struct that a loop of cue calls returns.
-abbrev pub filled_of : (number cues : ℕ) → CueIterator → CuesFilled
+-- The same but the bytes.
+pub record CuesCounted : Type 0 where
+  pub number : ℕ
+  pub cues : ℕ
+  pub cursor : CueIterator
+
+abbrev pub filled_of : (number cues : ℕ) → CueIterator → CuesCounted
 filled_of n k c = record { number = n; cues = k; cursor = c }
 
--- The same of what the calls give.
-abbrev pub given_of : CuesGiven → CuesFilled
+abbrev pub given_of : CuesGiven → CuesCounted
 given_of g = filled_of g.number g.count g.after
+
+-- What the struct that a loop of cue calls returns says.
+abbrev pub filled_says : CuesFilled → CuesCounted
+filled_says q = filled_of (told q.end) q.cues q.cursor
 
 -- ---- On lent bytes
 

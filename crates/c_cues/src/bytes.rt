@@ -10,6 +10,7 @@ use layout_put::put_u32;
 use reader_cues::ReadCue;
 
 // A cue in 16 bytes: its start, 0 for a point or 1 for the loop, and its name.
+// By number: the C interface.
 fn put_cue(out: &mut [u8], at: usize, start: u64, kind: u32, name: u32)
     requires { at + 16 < 2 ^ 64 }
     ensures { out.new ≡ put_cue out.old at start kind name }
@@ -26,7 +27,7 @@ pub fn put_answer(
     at: usize,
 ) -> Result<(), Failure>
     requires { at + 16 < 2 ^ 64 }
-    ensures value { result ≡ answered (cue_says answer) }
+    ensures value { result ≡ answered answer }
     ensures out_after { out.new ≡ answer_put out.old at (cue_says answer) }
 {
     match answer? {

@@ -6,14 +6,16 @@ ghost use Rattle.layout.specs.Puts.{put_at};
 ghost use Rattle.reader.specs.declared.HpsReader.{HpsReader};
 ghost use Rattle.reader.specs.CuesReadBack.{cursor};
 ghost use Rattle.reader_cues.specs.CueAnswers.{PartsOf};
-ghost use Rattle.c_cues.specs.KeptCues.{cursor_in, CursorBack, put_cursor, filled_of, cues_given, given_of, CuesLent, number_after, cues_number, gives_cues, cues_lent};
+ghost use Rattle.c_opened.specs.Failures.{told};
+ghost use Rattle.c_cues.specs.KeptCues.{cursor_in, CursorBack, put_cursor, filled_of, filled_says, cues_given, given_of, CuesLent, number_after, cues_number, gives_cues, cues_lent};
 
 use crate::bytes::put_answer;
+use c_opened::failure::Failure;
 use c_opened::fields::put_long;
 use c_opened::opened::reader_in;
-use c_opened::{END, NO_RECORD, NO_ROOM};
 use layout::DspFormat;
 use layout::limits::BLOCK_LIMIT;
+use layout::refusal::Refusal;
 use layout_number_or_zero::{long, word};
 use layout_put::put_u32;
 use reader::{CueIterator, HpsReader};
@@ -27,7 +29,8 @@ const CUE_SIZE: usize = 16;
 
 #[derive(Clone, Copy)]
 struct CuesFilled {
-    number: u32,
+    // Why the last call gave no cue, if it gave none.
+    end: Result<(), Failure>,
     cues: usize,
     cursor: CueIterator,
 }
@@ -63,8 +66,15 @@ pub fn cursor_back()
     ensures { CursorBack }
 {}
 
-fn filled(number: u32, cues: usize, block: usize, place: usize, base: u64, due: bool) -> CuesFilled
-    ensures { result ≡ filled_of number cues (cursor block place base due) }
+fn filled(
+    end: Result<(), Failure>,
+    cues: usize,
+    block: usize,
+    place: usize,
+    base: u64,
+    due: bool,
+) -> CuesFilled
+    ensures { filled_says result ≡ filled_of (told end) cues (cursor block place base due) }
 {
     let cursor = CueIterator {
         block,
@@ -72,11 +82,7 @@ fn filled(number: u32, cues: usize, block: usize, place: usize, base: u64, due: 
         base,
         due,
     };
-    CuesFilled {
-        number,
-        cues,
-        cursor,
-    }
+    CuesFilled { end, cues, cursor }
 }
 
 // As many cues as fit.
@@ -90,7 +96,7 @@ fn fill_cues(
     out: &mut [u8],
 ) -> CuesFilled
     requires { blocks ≤ length offsets.now }
-    ensures value { (r : HpsReader) → PartsOf r offsets.now blocks start format → result ≡ given_of (cues_given s.now r (length out.old / 16) from) }
+    ensures value { (r : HpsReader) → PartsOf r offsets.now blocks start format → filled_says result ≡ given_of (cues_given s.now r (length out.old / 16) from) }
     ensures out_after { (r : HpsReader) → PartsOf r offsets.now blocks start format
         → out.new ≡ put_at out.old 0 (cues_given s.now r (length out.old / 16) from).bytes }
 {
@@ -114,30 +120,27 @@ fn fill_cues(
         base = after.base;
         due = after.due;
         if let Err(failure) = put_answer(call.answer, out, CUE_SIZE * cues) {
-            return filled(failure.into(), cues, block, place, base, due);
+            return filled(Err(failure), cues, block, place, base, due);
         }
     }
-    filled(0, room, block, place, base, due)
+    filled(Ok(()), room, block, place, base, due)
 }
 
-// The number of calls of which the last gave this one, after so many cues: a refusal that comes after cues is left to the next call.
-fn number_after(cues: usize, number: u32) -> u32
-    ensures { result ≡ number_after cues number }
+// Whether calls that come to this give cues; else what was lent is left.
+fn gives(end: Result<(), Failure>) -> bool
+    ensures { result ≡ gives_cues (told end) }
 {
-    if cues == 0 {
-        return number;
-    }
-    if number == END { END } else { 0 }
+    matches!(end, Ok(()) | Err(Failure::End))
 }
 
-// Whether calls with this number give cues; with every other number what was lent is left.
-fn gives(number: u32) -> bool
-    ensures { result ≡ gives_cues number }
+// What calls come to of which the last gave this, after so many cues: a refusal that comes after cues is left to the next call.
+fn end_after(cues: usize, end: Result<(), Failure>) -> Result<(), Failure>
+    ensures { told result ≡ number_after cues (told end) }
 {
-    if number == 0 {
-        return true;
+    if cues > 0 && !gives(end) {
+        return Ok(());
     }
-    number == END
+    end
 }
 
 // Cue calls from a cursor on, until out is full, the cues end or one is refused; how many cues were given, and the cursor after them.
@@ -147,19 +150,17 @@ pub fn cue_calls(
     cursor: &mut [u8],
     out: &mut [u8],
     cues: &mut usize,
-) -> u32
-    ensures value { result ≡ cues_number slot.now kept.now (record { cursor = cursor.entry.now; out = out.old; cues = cues.old }) }
+) -> Result<(), Failure>
+    ensures value { told result ≡ cues_number slot.now kept.now (record { cursor = cursor.entry.now; out = out.old; cues = cues.old }) }
     ensures fact { ◌≡◌ {A = CuesLent} (record { cursor = cursor.exit.now; out = out.new; cues = cues.new })
         (cues_lent slot.now kept.now (record { cursor = cursor.entry.now; out = out.old; cues = cues.old })) }
 {
     if cursor.len() < CURSOR_SIZE {
-        return NO_ROOM;
+        return Err(Failure::NoRoom);
     }
-    let Ok(r) = reader_in(kept, 0, BLOCK_LIMIT) else {
-        return NO_RECORD;
-    };
+    let r = reader_in(kept, 0, BLOCK_LIMIT)?;
     if out.len() < CUE_SIZE {
-        return 14;
+        return Err(Failure::Refused(Refusal::LentTooShort));
     }
     let c = cursor_in(cursor, r);
     let start = r.loop_start;
@@ -167,11 +168,11 @@ pub fn cue_calls(
     let format = left.format;
     let offsets = r.offsets;
     let filled = fill_cues(slot, &offsets, r.blocks, start, format, c, out);
-    let number = number_after(filled.cues, filled.number);
-    if gives(number) {
+    let end = end_after(filled.cues, filled.end);
+    if gives(end) {
         let after = filled.cursor;
         put_cursor(cursor, after);
         *cues = filled.cues;
     }
-    number
+    end
 }

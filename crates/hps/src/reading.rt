@@ -145,7 +145,10 @@ pub extern "C" fn hps_cues(
     ensures fact { ◌≡◌ {A = CuesLent} (record { cursor = cursor.exit.now; out = out.new; cues = cues.new })
         (cues_lent slot.now kept.now (record { cursor = cursor.entry.now; out = out.old; cues = cues.old })) }
 {
-    cue_calls(slot, kept, cursor, out, cues)
+    match cue_calls(slot, kept, cursor, out, cues) {
+        Ok(()) => 0,
+        Err(failure) => failure.into(),
+    }
 }
 
 // The listing from its start: as many whole lines as fit into out, and how many bytes they are.

@@ -16,8 +16,7 @@ returns-in-Err c =
     let i = c.loop-cues.invariant in
     let h : 16 ≤ length c.loop-cues.out - 16 * c.loop-cues.cues = omega (arith, c.loop-cues-test.true, i.0.same) in
     let w = all-last _ _ _ _ _ _ _ _ _ _ _ i.0 i.1 h _
-    (step_of_parts _ _ _ _ _ _ c.cue_from-call.ensures) c.put_answer.ensures.out_after _ c.in-Err.ensures.value
-    (c.filled.ensures ∙ ap (λ (n : ℕ). filled_of n c.loop-cues.cues c.cue_from-call.result.cursor) c.into.ensures) in
+    (step_of_parts _ _ _ _ _ _ c.cue_from-call.ensures) c.put_answer.ensures.out_after _ c.in-Err.ensures.value c.filled.ensures in
     record {
       value = λ r p. (w r p).0;
       out_after = λ r p. (w r p).1;

@@ -2,8 +2,8 @@
 #![tactic(auto)]
 
 ghost use Rattle.std.specs.Prelude.{◌≡◌, replicate};
-ghost use Rattle.writer.specs.Loading.{push_args};
 ghost use Rattle.writer.specs.Calls.{Good, begin_of, push_of, finish_of};
+ghost use Rattle.writer_push.specs.PushArguments.{push_said};
 ghost use Rattle.cut_write_log.specs.WriteLog.{empty_log, logging};
 ghost use Rattle.cut_logged_calls.specs.LoggedCalls.{lent_of, log_after, made_by, made_says};
 ghost use Rattle.layout.specs.Refusals.{key_limit};
@@ -11,9 +11,9 @@ ghost use Rattle.layout.specs.Refusals.{key_limit};
 use cut_write_log::{WriteLog, empty_log, log_reply};
 use layout::limits::KEY_LIMIT;
 use layout::refusal::Refusal;
-use writer::{ChannelBlock, HpsWriter, Looping, Writes, begin};
+use writer::{HpsWriter, Looping, Writes, begin};
 use writer_finish::finish;
-use writer_push::push;
+use writer_push::{PushArgs, push};
 
 // The longest lent buffer: a block for a slot of 65,536 bytes gets 24 before it needs more.
 pub const LENT: usize = KEY_LIMIT;
@@ -71,25 +71,15 @@ pub fn begin_logged(
     begin_with(slot, channels, mode, &mut lent[..n], logged)
 }
 
-fn push_with(
-    w: HpsWriter,
-    channels: usize,
-    left: ChannelBlock,
-    right: ChannelBlock,
-    left_data: &[u8],
-    right_data: &[u8],
-    last: bool,
-    lent: &mut [u8],
-    j: WriteLog,
-    logged: &mut [u8],
-) -> Made
+fn push_with(w: HpsWriter, p: PushArgs<'_>, lent: &mut [u8], j: WriteLog, logged: &mut [u8]) -> Made
     requires { Good w }
-    ensures value { made_says result ≡ made_by (push_of w (push_args channels left right left_data.now right_data.now last) lent.old) (logging j logged.old) }
+    ensures value { made_says result
+        ≡ made_by (push_of w (push_said p.entry) lent.old) (logging j logged.old) }
     ensures logged_after { logged.new
-        ≡ (log_after (push_of w (push_args channels left right left_data.now right_data.now last) lent.old) (logging j logged.old)).bytes }
+        ≡ (log_after (push_of w (push_said p.entry) lent.old) (logging j logged.old)).bytes }
     ensures good { Good result.writer }
 {
-    let call = push(w, channels, left, right, left_data, right_data, last, lent);
+    let call = push(w, p, lent);
     let writer = call.writer;
     let answer = call.answer;
     let log = log_reply(j, answer, lent, logged);
@@ -103,36 +93,21 @@ fn push_with(
 // Push, with a lent buffer of so many bytes, 65,536 at most.
 pub fn push_logged(
     w: HpsWriter,
-    channels: usize,
-    left: ChannelBlock,
-    right: ChannelBlock,
-    left_data: &[u8],
-    right_data: &[u8],
-    last: bool,
+    p: PushArgs<'_>,
     room: usize,
     j: WriteLog,
     logged: &mut [u8],
 ) -> Made
     requires { Good w }
-    ensures value { made_says result ≡ made_by (push_of w (push_args channels left right left_data.now right_data.now last) (lent_of room)) (logging j logged.old) }
+    ensures value { made_says result
+        ≡ made_by (push_of w (push_said p.entry) (lent_of room)) (logging j logged.old) }
     ensures logged_after { logged.new
-        ≡ (log_after (push_of w (push_args channels left right left_data.now right_data.now last) (lent_of room)) (logging j logged.old)).bytes }
+        ≡ (log_after (push_of w (push_said p.entry) (lent_of room)) (logging j logged.old)).bytes }
     ensures good { Good result.writer }
 {
     let mut lent = zeros();
     let n = room.min(LENT);
-    push_with(
-        w,
-        channels,
-        left,
-        right,
-        left_data,
-        right_data,
-        last,
-        &mut lent[..n],
-        j,
-        logged,
-    )
+    push_with(w, p, &mut lent[..n], j, logged)
 }
 
 fn finish_with(w: HpsWriter, lent: &mut [u8], j: WriteLog, logged: &mut [u8]) -> Made

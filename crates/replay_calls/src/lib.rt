@@ -18,7 +18,7 @@ use writer::{Called, ChannelBlock, Cue, CueKind, HpsWriter, Looping, begin};
 use writer_cue::cue;
 use writer_estimate::estimate;
 use writer_finish::finish;
-use writer_push::push;
+use writer_push::{PushArgs, push};
 
 // What a recorded step does: it puts bytes into the slot, makes a call, or finds bytes in the slot.
 #[derive(Clone, Copy, Debug, PartialEq, Eq)]
@@ -128,16 +128,15 @@ fn make_push(step: &[u8], w: HpsWriter, lent: &mut [u8]) -> Called
     ensures good { Good result.writer }
 {
     let many = size(step, 20);
-    push(
-        w,
-        size(step, 12),
-        side(step, 32),
-        side(step, 84 + many),
-        part(step, 84, many),
-        part(step, 136 + many, size(step, 24)),
-        word(step, 16) == 1,
-        lent,
-    )
+    let p = PushArgs {
+        channels: size(step, 12),
+        left: side(step, 32),
+        right: side(step, 84 + many),
+        left_data: part(step, 84, many),
+        right_data: part(step, 136 + many, size(step, 24)),
+        last: word(step, 16) == 1,
+    };
+    push(w, p, lent)
 }
 
 // A cue is lent nothing.

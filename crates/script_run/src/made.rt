@@ -19,6 +19,7 @@ use script_words::hex::put_data;
 use script_words::text::line_at;
 use writer::{HpsWriter, Writes};
 use writer_cue::cue;
+use writer_push::PushArgs;
 
 // The most data that a line of a script of 1 MiB says.
 const DATA: usize = 524288;
@@ -49,12 +50,14 @@ fn push_sides(
     let m = put_data(&mut right_data, 0, data_word(right));
     push_logged(
         w,
-        p.channels as usize,
-        channel_line(left),
-        channel_line(right),
-        &left_data[..n],
-        &right_data[..m],
-        p.last,
+        PushArgs {
+            channels: p.channels as usize,
+            left: channel_line(left),
+            right: channel_line(right),
+            left_data: &left_data[..n],
+            right_data: &right_data[..m],
+            last: p.last,
+        },
         lent,
         j,
         logged,

@@ -24,7 +24,6 @@ use Rattle.writer.specs.WritesAndCuttingRule.{handed}
 use Rattle.writer.specs.Calls.{Reply, Replied, called, sample_end, taken_of, end_for, state_in, loop_due, loop_after, next_for, with_stream, after_block, push_bytes, push_of, Good}
 use Rattle.writer.specs.declared.ChannelBlock.{ChannelBlock}
 use Rattle.writer.specs.declared.HpsWriter.{HpsWriter}
-use Rattle.writer.specs.declared.Called.{Called}
 use Rattle.writer.proofs.DueLaws.{passed}
 use Rattle.writer.proofs.GoodLaws.{samples_few}
 use Rattle.writer.proofs.WriteLaws.{bytes_length}

@@ -6,7 +6,8 @@ ghost use Rattle.std.specs.Prelude.{◌≡◌, ◌+◌, length};
 ghost use Rattle.layout.specs.Records.{padded};
 ghost use Rattle.layout.specs.Puts.{put_at};
 ghost use Rattle.writer.specs.Calls.{called, called_says, push_of, Good};
-ghost use Rattle.writer.specs.Loading.{push_args, data_in};
+ghost use Rattle.writer.specs.Loading.{data_in};
+ghost use Rattle.writer_push.specs.PushArguments.{push_said};
 
 use layout::fields::inside;
 use layout::limits::BLOCK_HEADER_SIZE;
@@ -35,27 +36,29 @@ pub fn put_data(buf: &mut [u8], at: usize, channels: usize, left: &[u8], right: 
     }
 }
 
-// Push: the block is to go to the record's offset. In mono the right side counts for nothing. An empty push has no block: it hands out no write.
-pub fn push(
-    w: HpsWriter,
-    channels: usize,
-    left: ChannelBlock,
-    right: ChannelBlock,
-    left_data: &[u8],
-    right_data: &[u8],
-    last: bool,
-    lent: &mut [u8],
-) -> Called
+// What a push takes: a block of each channel with its data, and whether it is the last. In mono the right side counts for nothing.
+#[derive(Clone, Copy)]
+pub struct PushArgs<'a> {
+    pub channels: usize,
+    pub left: ChannelBlock,
+    pub right: ChannelBlock,
+    pub left_data: &'a [u8],
+    pub right_data: &'a [u8],
+    pub last: bool,
+}
+
+// Push: the block is to go to the record's offset. An empty push has no block: it hands out no write.
+pub fn push(w: HpsWriter, p: PushArgs<'_>, lent: &mut [u8]) -> Called
     requires { Good w }
-    ensures value { called_says result ≡ called (push_of w (push_args channels left right left_data.now right_data.now last) lent.old) }
-    ensures lent_after { lent.new ≡ (push_of w (push_args channels left right left_data.now right_data.now last) lent.old).lent }
+    ensures value { called_says result ≡ called (push_of w (push_said p.entry) lent.old) }
+    ensures lent_after { lent.new ≡ (push_of w (push_said p.entry) lent.old).lent }
     ensures good { Good result.writer }
 {
     let s = w.stream;
     let cues = w.table.cues;
     let count = w.table.count;
-    let end = block_end(s.base, left.length);
-    let taken = take(cues, s.next, count, end, last);
+    let end = block_end(s.base, p.left.length);
+    let taken = take(cues, s.next, count, end, p.last);
     let held = any_loop(cues, count);
     let answer = plan_push(
         w.setup,
@@ -63,12 +66,12 @@ pub fn push(
         taken,
         held,
         end,
-        channels,
-        left,
-        right,
-        left_data.len(),
-        right_data.len(),
-        last,
+        p.channels,
+        p.left,
+        p.right,
+        p.left_data.len(),
+        p.right_data.len(),
+        p.last,
         lent.len(),
     );
     let plan = match answer {
@@ -96,7 +99,7 @@ pub fn push(
         s.base,
         s.id,
     );
-    put_data(lent, plan.start, channels, left_data, right_data);
+    put_data(lent, plan.start, p.channels, p.left_data, p.right_data);
     Called {
         answer: Ok(Writes::One(Place {
             offset: s.offset,

@@ -10,7 +10,7 @@ use layout_put::put_u32;
 use reader_cues::ReadCue;
 
 // A cue in 16 bytes: its start, 0 for a point or 1 for the loop, and its name.
-// By number: the C interface.
+// The kind by number: the C interface.
 fn put_cue(out: &mut [u8], at: usize, start: u64, kind: u32, name: u32)
     requires { at + 16 < 2 ^ 64 }
     ensures { out.new ≡ put_cue out.old at start kind name }

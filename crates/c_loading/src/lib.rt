@@ -37,6 +37,7 @@ fn place_in(answer: Result<Writes, Refusal>) -> Result<Place, Failure>
 }
 
 // Begin: the record is kept in the lent bytes, if they are enough for it. The mode is 0 Disabled, 1 Enabled, 2 Auto.
+// The mode by number: the C interface.
 pub fn begin_kept(
     slot: usize,
     channels: usize,

@@ -17,6 +17,7 @@ use writer::{Cue, Place};
 use writer_estimate::estimate;
 
 // Begin: keeps the writer's record, and gives the write's offset and length. The mode is 0 Disabled, 1 Enabled, 2 Auto.
+// The mode by number: the C interface.
 #[unsafe(no_mangle)]
 pub extern "C" fn hps_begin(
     slot: usize,
@@ -45,6 +46,7 @@ pub extern "C" fn hps_begin(
     }
 }
 
+// The kind by number: the C interface.
 fn cue_asked(
     kept: &mut [u8],
     start: u64,
@@ -62,6 +64,7 @@ fn cue_asked(
 }
 
 // Cue: the kind is 0 a point, 1 a loop, 2 a range of this length.
+// The kind by number: the C interface.
 #[unsafe(no_mangle)]
 pub extern "C" fn hps_cue(kept: &mut [u8], start: u64, kind: u32, range: u64, name: u32) -> u32
     ensures { let o = cue_on kept.old start kind range name in

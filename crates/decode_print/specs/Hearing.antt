@@ -1,5 +1,5 @@
 -- Hearing a channel (document 02, Card 1): the samples of a slot's channel and how they end, and what is printed of them.
-use Rattle.std.specs.Prelude.{ℕ, ◌-◌, ◌*◌, ◌/◌, ◌≤◌, ◌≡◌, Bool, true, false, List, [], length, drop, eqb, ℤ, Option, Some, None, Result, Ok, Err}
+use Rattle.std.specs.Prelude.{ℕ, ◌+◌, ◌-◌, ◌*◌, ◌/◌, ◌≤◌, ◌<◌, ◌≡◌, Bool, true, false, List, [], length, drop, eqb, ℤ, Option, Some, None, Result, Ok, Err}
 use Rattle.layout.specs.Records.{Read}
 use Rattle.layout.specs.Answers.{number_of}
 use Rattle.layout.specs.declared.refusal.Refusal.{Refusal}
@@ -87,7 +87,17 @@ pub record HeardHere (s : List ℕ) (r : HpsReader) (channel places : ℕ) (h : 
   pub before : Before s r channel h.decoder h.heard.length
   pub end : ended_says h.heard.end ≡ decode_answer (decoding s r channel h.decoder.position places)
 
--- The same, or up to samples that the system did not take.
+-- Samples that the system did not take, after so many that it was handed: they are among those that a call gave, with so many places lent.
+pub record Untaken (s : List ℕ) (r : HpsReader) (channel places count : ℕ) : Type 0 where
+  pub decoder : Decoder
+  pub from : ℕ
+  pub before : Before s r channel decoder from
+  pub given : ℕ
+  pub gave : decode_answer (decoding s r channel decoder.position places) ≡ Read.value (Some given)
+  pub among : (from ≤ count) × (count < from + given)
+  pub inside : from + given ≤ length (channel_samples s channel)
+
+-- Printed up to a call that gave no samples, or up to samples that the system did not take.
 abbrev pub HeardTo : List ℕ → HpsReader → (channel places : ℕ) → Result Hearing NotTaken → Type 0
 HeardTo s r ch places (Ok h) = HeardHere s r ch places h
-HeardTo s r ch places (Err e) = e.length ≤ length (channel_samples s ch)
+HeardTo s r ch places (Err e) = Untaken s r ch places e.length

@@ -1,7 +1,7 @@
 // A channel decoded and printed, block after block: 16 bits little-endian.
 #![tactic(auto)]
 
-ghost use Rattle.std.specs.Prelude.{◌≡◌, ◌≤◌, ◌+◌, ◌*◌, length, take, drop, MatchResult};
+ghost use Rattle.std.specs.Prelude.{◌≡◌, ◌≤◌, ◌<◌, ◌+◌, ◌*◌, length, take, drop, MatchResult};
 ghost use Rattle.layout.specs.Refusals.{block_limit};
 ghost use Rattle.pcm_bytes.specs.Pcm.{pcm_bytes};
 ghost use Rattle.reader.specs.OpeningAndReading.{Readable};
@@ -53,7 +53,7 @@ fn print_samples<W: Write>(
 ) -> Result<usize, NotTaken>
     requires those { samples.now ≡ take (length samples.now) (drop from (channel_samples s.now channel)) }
     requires fits { from + length samples.now ≤ block_limit * most_samples }
-    ensures { MatchResult result (λ n. n ≡ length samples.now) (λ e. e.length ≤ from + length samples.now) }
+    ensures { MatchResult result (λ n. n ≡ length samples.now) (λ e. (from ≤ e.length) × (e.length < from + length samples.now)) }
 {
     let mut out = large_buffer();
     let mut at: usize = 0;

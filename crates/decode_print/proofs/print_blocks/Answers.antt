@@ -1,4 +1,4 @@
-use Rattle.std.proofs.Common.{arith, ◌∙◌}
+use Rattle.std.proofs.Common.{arith, sym, ◌∙◌}
 use Rattle.std.proofs.lemmas.Result.{err_from_is_err_and}
 use lib.Seq.{length-take-le}
 use Rattle.decode_print.proofs.HearingLaws.{Step, same_places, step}
@@ -25,7 +25,17 @@ pub returns-in_err-taken : goal.returns-in_err-taken
 returns-in_err-taken g c =
     let o = given g (goal.at.returns-in_err-taken g c).In-Ok-Some in
     let p = err_from_is_err_and c.from_residual.result c.from_residual.ensures.1 in
-    rw (p.1, p.2) (omega (arith, c.in_err-taken.ensures, length-take-le _ _ o.fits, o.inside))
+    let f = rw c.in-Ok-Some.is at c.in-Ok-Some.field-0-is in
+    rw (p.1, p.2)
+    (record {
+      decoder = c.loop-n.decoder;
+      from = c.loop-n.length;
+      before = c.loop-n.invariant.0.1;
+      given = c.in-Ok-Some.n;
+      gave = rw (← c.loop-n.invariant.1.0) (sym (rw (c.in-Ok-Some.is, f) at c.decode-call.ensures.answer));
+      among = (omega (arith, c.in_err-taken.ensures), omega (arith, c.in_err-taken.ensures, length-take-le _ _ o.fits));
+      inside = o.inside;
+    })
 
 pub loop-n-smaller : goal.loop-n-smaller
 loop-n-smaller g c = (given g (goal.at.loop-n-smaller g c).In-Ok-Some).less

@@ -13,7 +13,9 @@ pub fn put_bytes(buf: &mut [u8], at: usize, src: &[u8])
     ensures { buf.new ≡ put_at buf.old at src.now }
 {
     if inside(buf.len(), at, src.len()) {
-        buf[at..at + src.len()].copy_from_slice(src);
+        for (j, byte) in src.iter().enumerate() {
+            buf[at + j] = *byte;
+        }
     }
 }
 

@@ -1,5 +1,5 @@
 -- Counting marks and looking for the highest free frame, and the ways of a take and of a give.
-use Prim.Native.Nat.{ℕ, zero, suc, ◌-◌, ◌≤◌, ◌<◌}
+use Prim.Native.Nat.{ℕ, zero, suc, ◌+◌, ◌-◌, ◌≤◌, ◌<◌}
 use mathlib.Core.Path.{◌≡◌, refl, sym, ap, ◌∙◌}
 use mathlib.Core.Bool.{Bool, true, false, not}
 use mathlib.Core.List.{List}
@@ -52,6 +52,14 @@ counted_first m l (suc n) h =
     by_cases (same_mark (get_or l n None) m)
     (λ t. rw t (omega (arith, rw (add-one n) at (count_by_more_yes (λ x. same_mark x m) l n None (omega arith) t), counted_first m l n (omega arith))))
     (λ t. rw t (omega (arith, rw (add-one n) at (count_by_more_no (λ x. same_mark x m) l n None (omega arith) t), counted_first m l n (omega arith))))
+
+pub count_hit : (m : Mark) (l : List Mark) (n i : ℕ) → same_mark (get_or l i None) m ≡ true → n ≡ count_marked i m l → n + 1 ≡ count_marked (i + 1) m l
+unfolding count_marked
+count_hit m l n i e s = rw (add-one i, e) (omega arith)
+
+pub count_miss : (m : Mark) (l : List Mark) (n i : ℕ) → same_mark (get_or l i None) m ≡ false → n ≡ count_marked i m l → n ≡ count_marked (i + 1) m l
+unfolding count_marked
+count_miss m l n i e s = rw (add-one i, e) (omega arith)
 
 -- all of them, by what the chain gives
 pub counted : (m : Mark) (l : List Mark) {n : ℕ} → length l ≡ frame_count → n ≡ count_by (λ x. same_mark x m) l → n ≡ count_marked frame_count m l

@@ -38,6 +38,8 @@ pub fn open(s: &[u8]) -> Result<HpsReader, Refusal>
     ensures value { opened_says result ≡ opening s.now }
     ensures readable { IfOk result Readable }
 {
+    // First of all: further down the compiler would clear their place at the start and once more there.
+    let mut offsets = [0; BLOCK_LIMIT];
     if s.len() > SLOT_LIMIT {
         return Err(Refusal::WrongSlotLength);
     }
@@ -49,7 +51,6 @@ pub fn open(s: &[u8]) -> Result<HpsReader, Refusal>
     }
     let left = read_channel(s, 16)?;
     let right = read_channel(s, 72)?;
-    let mut offsets = [0; BLOCK_LIMIT];
     let walk = walk_blocks(s, &mut offsets)?;
     Ok(HpsReader {
         rate,

@@ -44,9 +44,10 @@ fn push_sides(
     requires left_len_bound { (length left.now ≤ script_limit) × (length right.now ≤ script_limit) }
     ensures { CallMade (push_of w (push_with p left.now right.now) (lent_of lent)) (logging j logged.old) result logged.new }
 {
+    // Both rooms first: with the second one after the first's bytes the compiler clears a room of this size once more for each push.
     let mut left_data = data_room();
-    let n = put_data(&mut left_data, 0, data_word(left));
     let mut right_data = data_room();
+    let n = put_data(&mut left_data, 0, data_word(left));
     let m = put_data(&mut right_data, 0, data_word(right));
     push_logged(
         w,

@@ -1,6 +1,17 @@
-use Rattle.std.proofs.Common.{rules}
-use Rattle.frame_pool.proofs.PoolLaws.{counted}
+use Rattle.std.proofs.Common.{rules, refl, arith, ◌∙◌}
+use Rattle.frame_pool.specs.FramePool.{count_marked}
+use Rattle.frame_pool.proofs.PoolLaws.{count_hit, count_miss}
 use Rattle.frame_pool.proofs.marks.count.Goals as goal
+use Rattle.frame_pool.proofs.marks.count.Goals.{then-eq, else-eq}
 
-pub returns : goal.returns
-returns c = counted _ _ c.told-marks (search rules)
+pub loop-i-init : goal.loop-i-init
+unfolding count_marked
+loop-i-init c = (refl, omega arith)
+
+pub loop-i-preserved : goal.loop-i-preserved
+loop-i-preserved c =
+    let s = c.loop-i.invariant.0 in
+    elim c.if-eq.branch [
+      | then-eq w ↦ (w.n-is ∙ count_hit _ _ _ c.loop-i.i (search rules) s, omega arith)
+      | else-eq w ↦ (w.n-is ∙ count_miss _ _ _ c.loop-i.i (search rules) s, omega arith)
+    ]

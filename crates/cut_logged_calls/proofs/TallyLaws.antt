@@ -7,12 +7,16 @@ use native.Mathlib.Omega.{arith}
 use lib.ListN.{length, take, drop, replicate, length-append, length-take, length-map, length-replicate}
 use lib.Dec.{eqb}
 use borrow.Author.Tests.{ltb-false, leb-false, eqb-true}
+use Rattle.std.specs.Prelude.{Result, Ok, Err}
+use Rattle.layout.specs.Answers.{number_of}
+use Rattle.layout.specs.declared.refusal.Refusal.{Refusal}
+use Rattle.writer.specs.declared.Writes.{Writes}
 use Rattle.layout.specs.Lists.{sum}
 use Rattle.layout.specs.Puts.{put_at}
 use Rattle.layout.proofs.Cases.{by_cases, apart}
 use Rattle.writer.specs.WritesAndCuttingRule.{Write, write, place_of, handed, writes_in, most_writes}
 use Rattle.writer.specs.Loading.{Push, refused, accepted, begin_refusal, begin_write, empty_push, push_refusal, finish_refusal, block_size, start_write, rest_write, mark_write}
-use Rattle.writer.specs.Calls.{Handed, handed_writes, reply_for, places_in, Outcome, Replied, reply_says, outcome, writes, called, called_says, blank, empty_of, begin_of, taken_of, state_in, next_for}
+use Rattle.writer.specs.Calls.{Handed, handed_writes, reply_for, places_in, Outcome, Replied, reply_says, reply_by, outcome, writes, called, called_says, blank, empty_of, begin_of, taken_of, state_in, next_for}
 use Rattle.writer.specs.Calls.{push_bytes, after_block, push_of, header_of, after_finish, finish_of, answer_of, Good}
 use Rattle.writer.specs.declared.Looping.{Looping}
 use Rattle.writer.specs.declared.HpsWriter.{HpsWriter}
@@ -116,13 +120,19 @@ module _ (n : ℕ) (w : HpsWriter) (lent : List ℕ) (next : HpsWriter) (h : Han
       let k = logs_all (places_in o.reply) g o.lent t.listed (room_for n w lent next h g.log g.bytes t.listed f) in
       record { tally = tally_after n w lent next h g.log g.bytes t c k; is = k.is; put = k.put }
 
+by_number : (a : Result Writes Refusal) → reply_by number_of a ≡ reply_says a
+by_number (Err r) = refl
+by_number (Ok Writes.None) = refl
+by_number (Ok (Writes.One p)) = refl
+by_number (Ok (Writes.Three n p q r)) = refl
+
 -- What a call leaves, by its outcome.
 pub call_made : (o : Outcome) (g : Logging) (call : Called) {l : List ℕ} {q : WriteLog} {after : List ℕ} → (called_says call ≡ called o) × ((l ≡ o.lent) × Good call.writer)
-    → (q ≡ (log_all g l 0 (places_in (reply_says call.answer))).log) × (after ≡ (log_all g l 0 (places_in (reply_says call.answer))).bytes)
+    → (q ≡ (log_all g l 0 (places_in (reply_by number_of call.answer))).log) × (after ≡ (log_all g l 0 (places_in (reply_by number_of call.answer))).bytes)
     → (made_says (record { writer = call.writer; answer = call.answer; log = q }) ≡ made_by o g) × ((after ≡ (log_after o g).bytes) × Good call.writer)
 unfolding log_after
 call_made o g call b h =
-    let r : reply_says call.answer ≡ o.reply = ap (λ (x : Replied). x.reply) b.0 in
+    let r : reply_by number_of call.answer ≡ o.reply = by_number call.answer ∙ ap (λ (x : Replied). x.reply) b.0 in
     let w : call.writer ≡ o.writer = ap (λ (x : Replied). x.writer) b.0 in
     (rw (h.0, b.1.0, r, w), (h.1 ∙ rw (r, b.1.0), b.1.1))
 

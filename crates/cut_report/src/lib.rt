@@ -3,13 +3,12 @@
 
 ghost use Rattle.std.specs.Prelude.{◌≡◌, ◌≤◌, length};
 ghost use Rattle.key_lines.specs.Lines.{line};
-ghost use Rattle.writer.specs.Calls.{reply_says};
+ghost use Rattle.writer.specs.Calls.{reply_by};
 ghost use Rattle.cut_report.specs.Report.{reply_line, write_line, time_line, script_line, line_in};
 
 use host_io::write_all;
 use key_lines::Column;
 use key_lines::line::put_line;
-use layout::refusal::Refusal;
 use std::io::Write;
 use writer::{Place, Writes};
 
@@ -33,12 +32,13 @@ fn line_of(word: &[u8; 4], columns: &[Column]) -> ReportLine
     ReportLine { bytes, length }
 }
 
-pub fn reply_line(call: u64, answer: Result<Writes, Refusal>) -> ReportLine
-    ensures { line_in result ≡ reply_line call (reply_says answer) }
+// A call's answer, a refusal by any number.
+pub fn reply_line(call: u64, answer: Result<Writes, u32>) -> ReportLine
+    ensures { line_in result ≡ reply_line call (reply_by (λ n. n) answer) }
 {
     let number = Column::Number(call);
     match answer {
-        Err(why) => line_of(b"STOP", &[number, Column::Number(u32::from(why) as u64)]),
+        Err(why) => line_of(b"STOP", &[number, Column::Number(why as u64)]),
         Ok(Writes::None) => line_of(b"DONE", &[number]),
         Ok(Writes::One(_)) => line_of(b"DONE", &[number]),
         Ok(Writes::Three(length, _, _, _)) => {

@@ -1,12 +1,11 @@
 // Writes logged for later: their places, and their bytes one after the other.
 #![tactic(auto)]
 
-ghost use Rattle.std.specs.Prelude.{◌≡◌, [], ◌∷◌};
-ghost use Rattle.writer.specs.Calls.{places_in, reply_says};
+ghost use Rattle.std.specs.Prelude.{◌≡◌, ℕ, [], ◌∷◌};
+ghost use Rattle.writer.specs.Calls.{places_in, reply_by};
 ghost use Rattle.cut_write_log.specs.WriteLog.{empty_log, logging, log_one, log_all};
 
 use layout::fields::inside;
-use layout::refusal::Refusal;
 use layout_put::put_bytes;
 use writer::{MOST_WRITES, Place, Writes};
 
@@ -77,15 +76,15 @@ fn log_three(
     log_write(j, start, lent, 0, logged)
 }
 
-// The writes that a call hands out.
-pub fn log_reply(
+// The writes that a call hands out. A refusal hands out none, by whatever number.
+pub fn log_reply<E: Copy>(
     j: WriteLog,
-    answer: Result<Writes, Refusal>,
+    answer: Result<Writes, E>,
     lent: &[u8],
     logged: &mut [u8],
 ) -> WriteLog
-    ensures value { result ≡ (log_all (logging j logged.old) lent.now 0 (places_in (reply_says answer))).log }
-    ensures logged_after { logged.new ≡ (log_all (logging j logged.old) lent.now 0 (places_in (reply_says answer))).bytes }
+    ensures value { (number : E → ℕ) → result ≡ (log_all (logging j logged.old) lent.now 0 (places_in (reply_by number answer))).log }
+    ensures logged_after { (number : E → ℕ) → logged.new ≡ (log_all (logging j logged.old) lent.now 0 (places_in (reply_by number answer))).bytes }
 {
     match answer {
         Err(_) => j,

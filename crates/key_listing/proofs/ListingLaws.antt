@@ -22,13 +22,11 @@ use Rattle.key_lines.proofs.ColumnLaws.{column-length}
 use Rattle.key_listing.specs.MarkingKey.{on_cue, cue_calls, cue_lines, block_lines, opened_lines, lines_from}
 use Rattle.key_listing.specs.Filling.{lines_fitting, lines_beyond, line_fitting, lines_after}
 use Rattle.layout.specs.Refusals.{block_limit}
-use Rattle.layout.specs.Answers.{number_of}
-use Rattle.layout.specs.declared.refusal.Refusal.{Refusal}
 
 module _ (s : List ℕ) (r : HpsReader) where
-  pub stop-rest : (e : Refusal) → lines_from s r (Stage.Stop e) ≡ stop_line (number_of e) ∷ lines_from s r Stage.Done
+  pub stop-rest : (n : ℕ) → lines_from s r (Stage.Stop n) ≡ stop_line n ∷ lines_from s r Stage.Done
   unfolding lines_from
-  stop-rest e = refl
+  stop-rest n = refl
 
   pub done_rest : lines_from s r Stage.Done ≡ []
   unfolding lines_from
@@ -134,7 +132,7 @@ loop_width (Some i) = column-length 11 i
 
 pub sized : (s : List ℕ) (r : HpsReader) (stage : Stage) → Sized (lines_from s r stage)
 unfolding Sized lines_from opened_lines
-sized s r (Stage.Stop e) = sized_more (stop_line (number_of e)) [] 16 (simp (length-append, column-length)) (omega arith) (omega arith) tt
+sized s r (Stage.Stop n) = sized_more (stop_line n) [] 16 (simp (length-append, column-length)) (omega arith) (omega arith) tt
 sized s r Stage.Head =
     sized_more (head_line r) (block_lines s r 0 (offsets_from r 0)) 49 (simp (length-append, column-length, loop_width)) (omega arith) (omega arith)
     (sized_blocks s r 0 (offsets_from r 0))

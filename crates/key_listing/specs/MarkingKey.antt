@@ -10,7 +10,6 @@ use Rattle.reader.specs.declared.CueIterator.{CueIterator}
 use Rattle.key_listing.specs.declared.Stage.{Stage}
 use Rattle.key_lines.specs.Lines.{stop_line, head_line, block_line, loop_line, cue_line}
 use Rattle.layout.specs.Refusals.{key_limit}
-use Rattle.layout.specs.Answers.{number_of}
 
 -- A cue call's line and what follows it; nothing follows the end.
 abbrev pub on_cue : CueAnswer → (rest : List (List ℕ)) → List (List ℕ)
@@ -58,7 +57,7 @@ listing s = flatten (listing_lines s)
 
 -- The lines that are still to be printed.
 unfoldable pub lines_from : List ℕ → HpsReader → Stage → List (List ℕ)
-lines_from s r (Stage.Stop e) = stop_line (number_of e) ∷ []
+lines_from s r (Stage.Stop n) = stop_line n ∷ []
 lines_from s r Stage.Head = opened_lines s r
 lines_from s r (Stage.Blocks i) = block_lines s r i (offsets_from r i)
 lines_from s r (Stage.Cues n c) = cue_lines n s r c

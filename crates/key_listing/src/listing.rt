@@ -76,7 +76,7 @@ fn next_line(s: &[u8], r: HpsReader, stage: Stage, out: &mut [u8], at: usize) ->
     ensures { LineIs s.now r stage out.old at out.new result }
 {
     match stage {
-        Stage::Stop(refusal) => put_or(put_stop(out, at, u32::from(refusal)), Stage::Done),
+        Stage::Stop(number) => put_or(put_stop(out, at, number), Stage::Done),
         Stage::Head => put_or(put_head(out, at, r), Stage::Blocks(0)),
         Stage::Blocks(i) if i < r.blocks => block_line(s, r, i, out, at),
         Stage::Blocks(_) => cue_line(s, r, CUE_CALLS, first_cursor(r), out, at),

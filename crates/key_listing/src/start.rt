@@ -1,8 +1,7 @@
 // The listing of a slot from its start.
-ghost use Rattle.std.specs.Prelude.{◌≡◌, IfOk};
+ghost use Rattle.std.specs.Prelude.{◌≡◌};
 ghost use Rattle.reader.specs.OpeningAndReading.{Readable};
-ghost use Rattle.reader.specs.ReaderAnswers.{opened_says};
-ghost use Rattle.key_listing.specs.MarkingKey.{on_opened, listing_lines, lines_from};
+ghost use Rattle.key_listing.specs.MarkingKey.{listing_lines, lines_from};
 
 use crate::Stage;
 use layout::limits::KEY_LIMIT;
@@ -16,28 +15,25 @@ pub struct Listing {
     pub reader: HpsReader,
 }
 
-// The slot opened, where it is no longer than what is listed.
-fn opened(s: &[u8]) -> Result<HpsReader, Refusal>
-    ensures value { on_opened s.now (opened_says result) ≡ listing_lines s.now }
-    ensures readable { IfOk result Readable }
-{
-    if s.len() > KEY_LIMIT {
-        return Err(Refusal::WrongSlotLength);
-    }
-    open(s)
-}
-
+// A slot that is longer than what is listed is opened too; 7 stands for what it opens to.
 pub fn start_listing(s: &[u8]) -> Listing
     ensures stage_value { lines_from s.now result.reader result.stage ≡ listing_lines s.now }
     ensures readable { Readable result.reader }
 {
-    match opened(s) {
+    let opened = open(s);
+    if s.len() > KEY_LIMIT {
+        return Listing {
+            stage: Stage::Stop(Refusal::WrongSlotLength.into()),
+            reader: opened.unwrap_or(no_reader()),
+        };
+    }
+    match opened {
         Ok(reader) => Listing {
             stage: Stage::Head,
             reader,
         },
         Err(refusal) => Listing {
-            stage: Stage::Stop(refusal),
+            stage: Stage::Stop(refusal.into()),
             reader: no_reader(),
         },
     }

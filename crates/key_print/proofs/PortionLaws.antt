@@ -10,7 +10,6 @@ use lib.Pointwise.{pointwise, bytes_decides}
 use mathlib.Core.Bool.{Bool, true, false, not}
 use Rattle.layout.proofs.Cases.{apart}
 use Rattle.layout.proofs.PutLaws.{put_at_in, put_at-length}
-use Rattle.layout.specs.declared.refusal.Refusal.{Refusal}
 use Rattle.reader.specs.declared.HpsReader.{HpsReader}
 use Rattle.key_listing.specs.MarkingKey.{lines_from, listing_from}
 use Rattle.key_listing.specs.Filling.{FilledIs, lines_fitting}
@@ -201,7 +200,7 @@ module _ {a b whole whole2 : List ℕ} {r q : HpsReader} {p p2 left right : Port
         omega (arith, simp length-append at (ap length (passed a r left out f.held k here)))
 
 -- Both are refused with the same number.
-pub same-stops : {x y : Stage} {n m : Refusal} → x ≡ Stage.Stop n → y ≡ Stage.Stop m → n ≡ m → (s t : List ℕ) (r q : HpsReader)
+pub same-stops : {x y : Stage} {n m : ℕ} → x ≡ Stage.Stop n → y ≡ Stage.Stop m → n ≡ m → (s t : List ℕ) (r q : HpsReader)
     → listing_from s r x ≡ listing_from t q y
 unfolding lines_from
 same-stops d e i s t r q = rw (d, e, i)

@@ -27,7 +27,7 @@ fn run_call(step: &[u8], w: HpsWriter, slot: &mut [u8], lent: &mut [u8]) -> Opti
     let good = is_applied(
         slot,
         size(step, 8),
-        call.answer,
+        call.answer.map_err(|why| why.into()),
         word(step, 4),
         size(step, 12),
         lent,

@@ -4,7 +4,7 @@
 
 ghost use Rattle.std.specs.Prelude.{◌≡◌};
 ghost use Rattle.reader.specs.OpeningAndReading.{opening};
-ghost use Rattle.writer.specs.Calls.{reply_says};
+ghost use Rattle.writer.specs.Calls.{reply_by};
 ghost use Rattle.replay_server.specs.ServersPart.{is_due, applied, write_applied, header_applied, reply_applied};
 
 use layout::fields::inside;
@@ -68,16 +68,16 @@ fn apply_header(
 pub fn is_applied(
     slot: &mut [u8],
     n: usize,
-    answer: Result<Writes, Refusal>,
+    answer: Result<Writes, u32>,
     due: u32,
     length: usize,
     lent: &[u8],
 ) -> bool
-    ensures value { result ≡ (reply_applied slot.old n (reply_says answer) due length lent.now).good }
-    ensures slot_after { slot.new ≡ (reply_applied slot.old n (reply_says answer) due length lent.now).slot }
+    ensures value { result ≡ (reply_applied slot.old n (reply_by (λ n. n) answer) due length lent.now).good }
+    ensures slot_after { slot.new ≡ (reply_applied slot.old n (reply_by (λ n. n) answer) due length lent.now).slot }
 {
     match answer {
-        Err(refusal) => u32::from(refusal) == due,
+        Err(number) => number == due,
         Ok(Writes::None) => due == 0,
         Ok(Writes::One(place)) => {
             due == 0 && apply_write(slot, n, place, lent, 0, place.length, false)

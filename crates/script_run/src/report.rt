@@ -28,7 +28,7 @@ pub(crate) fn report_call<W: Write>(
     log: WriteLog,
     from: usize,
 ) {
-    print_line(to, reply_line(call, answer));
+    print_line(to, reply_line(call, answer.map_err(|why| why.into())));
     report_writes(to, call, log, from);
 }
 

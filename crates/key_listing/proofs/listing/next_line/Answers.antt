@@ -10,7 +10,7 @@ returns-in-Stop c =
     let a = c.args in
     stage_as a.s.now a.r a.out.now a.at c.in-Stop.is
     (line_or_lem a.s.now a.r (Stage.Stop _) a.out.now a.at _ _ (stop-rest a.s.now a.r _)
-    (rw (← c.from.ensures) c.put_stop.ensures) _ c.put_or.ensures)
+    c.put_stop.ensures _ c.put_or.ensures)
 
 pub returns-in-Head : goal.returns-in-Head
 returns-in-Head c =

@@ -4,16 +4,23 @@ use Rattle.c_opened.specs.declared.failure.Failure.{Failure}
 use Rattle.c_opened.specs.Failures.{failure_number}
 use Prim.Native.Nat.{ℕ, zero, suc, ◌+◌, ◌*◌, ◌-◌, ◌/◌, ◌≤◌, ◌<◌}
 use mathlib.Core.Path.{◌≡◌, refl, sym, ap, ◌∙◌}
-use mathlib.Core.List.{List, [], ◌++◌, append_assoc, append-nil}
+use mathlib.Core.Bool.{Bool}
+use mathlib.Core.List.{List, [], ◌∷◌, ◌++◌, append_assoc, append-nil}
 use native.Mathlib.Omega.{arith}
 use native.Mathlib.Nat.{add_assoc, add-zero}
 use lib.ListN.{length}
+use lib.Dec.{ltb}
+use Rattle.layout.specs.Choice.{◌and◌}
 use Rattle.layout.specs.Puts.{put_at}
+use Rattle.layout.specs.Records.{cue_at, length_in}
+use Rattle.layout.proofs.Cases.{by_cases}
 use Rattle.layout.proofs.PutLaws.{Put, put_then, put_at-none}
 use Rattle.layout.specs.declared.DspFormat.{DspFormat}
 use Rattle.reader.specs.declared.HpsReader.{HpsReader}
 use Rattle.reader.specs.declared.CueIterator.{CueIterator}
-use Rattle.reader.specs.CuesReadBack.{CueAnswer, CueStep, cue_step}
+use Rattle.reader.specs.OpeningAndReading.{offsets_from}
+use Rattle.reader.specs.CuesReadBack.{CueAnswer, CueStep, loop_here, point_of, base_after, cue_from, cue_step}
+use Rattle.reader.proofs.HeaderLaws.{header_cases}
 use Rattle.reader_cues.specs.declared.CueCall.{CueCall}
 use Rattle.reader_cues.specs.declared.ReadCue.{ReadCue}
 use Rattle.layout.specs.Answers.{number_of}
@@ -22,6 +29,28 @@ use Rattle.reader_cues.specs.CueAnswers.{cue_says, cue_called, PartsOf}
 use Rattle.c_cues.specs.KeptCues.{CuesCounted, CuesGiven, no_cue_given, ahead, one_cue, cues_given, filled_of, given_of}
 use Rattle.c_cues.specs.CueBytes.{cue_kept, answered, answer_put}
 use Rattle.c_cues.proofs.CueBytesLaws.{cue-long, cue-put}
+
+-- a refused call's number is 1
+module _ (s : List ℕ) (r : HpsReader) (c : CueIterator) where
+  from_one : (os : List ℕ) (i j b : ℕ) (d : Bool) (n : ℕ) → (cue_from s r c os i j b d).answer ≡ CueAnswer.refused n → n ≡ 1
+  unfolding cue_from
+  from_one [] i j b d n e = absurd (let z : ◌≡◌ {A = ℕ} 0 1 = cc in omega arith)
+  from_one (o ∷ os) i j b d n e =
+      by_cases (d and loop_here r.loop_start i)
+      (λ t. let k : CueAnswer.loop b ≡ CueAnswer.refused n = rw t at e in absurd (let z : ◌≡◌ {A = ℕ} 0 1 = cc in omega arith))
+      (λ t.
+      let k = rw t at e in
+      header_cases s o
+      (λ h. let x : CueAnswer.refused 1 ≡ CueAnswer.refused n = rw h at k in cc)
+      (λ v h.
+      let x = rw h at k in
+      by_cases (ltb j v.cues)
+      (λ u. let y : point_of b (cue_at s (o + 32 + 8 * j)) ≡ CueAnswer.refused n = rw u at x in absurd (let z : ◌≡◌ {A = ℕ} 0 1 = cc in omega arith))
+      (λ u. from_one os (i + 1) 0 (base_after r b (length_in v)) d n (rw u at x))))
+
+  pub refused_one : (n : ℕ) → (cue_step s r c).answer ≡ CueAnswer.refused n → n ≡ 1
+  unfolding cue_step
+  refused_one n e = from_one (offsets_from r c.block) c.block c.place c.base c.due n e
 
 -- ---- What calls give, with others ahead
 

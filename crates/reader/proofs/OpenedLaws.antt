@@ -1,7 +1,7 @@
 -- An opening taken apart, and what holds of every record that it gives.
-use Rattle.std.proofs.Common.{Option}
+use Rattle.std.proofs.Common.{Option, Result, Ok, Err}
 use Prim.Native.Nat.{ℕ, zero, suc, ◌+◌, ◌≤◌}
-use mathlib.Core.Path.{◌≡◌, refl}
+use mathlib.Core.Path.{◌≡◌, refl, ap, sym, ◌∙◌}
 use mathlib.Core.Bool.{Bool, true, false}
 use mathlib.Core.List.{List, [], ◌∷◌, ◌++◌}
 use mathlib.Core.Logic.{◌⊎◌, inl, inr, ⊎_elim}
@@ -16,6 +16,9 @@ use Rattle.layout.specs.declared.Channel.{Channel}
 use Rattle.layout.proofs.Cases.{by_cases}
 use Rattle.reader.proofs.HeaderLaws.{header_cases}
 use Rattle.reader.specs.declared.HpsReader.{HpsReader}
+use Rattle.layout.specs.Answers.{number_of}
+use Rattle.layout.specs.declared.refusal.Refusal.{Refusal}
+use Rattle.reader.specs.ReaderAnswers.{opened_says}
 use Rattle.reader.specs.OpeningAndReading.{Walked, refused, walked, first_at, walk_from, Opened, on_walk, made, opening, Readable}
 
 -- ---- Taking an opening apart
@@ -122,3 +125,12 @@ opened_readable s r e =
     let p = opened_parts_lem s r e in
     rw (← p.is)
     (record { channels = ⊎_elim (λ h. omega arith) (λ h. omega arith) (one_or_two p.count p.right_count); blocks = walk_few block_limit s [] file_header_size p.offsets p.start p.walk })
+
+-- ---- What the answer tells
+
+module _ (s : List ℕ) (q : Result HpsReader Refusal) (e : opened_says q ≡ opening s) where
+  pub call_refused : (r : Refusal) → q ≡ Err r → opening s ≡ Opened.refused (number_of r)
+  call_refused r h = sym e ∙ ap opened_says h
+
+  pub call_opened : (r : HpsReader) → q ≡ Ok r → opening s ≡ Opened.opened r
+  call_opened r h = sym e ∙ ap opened_says h

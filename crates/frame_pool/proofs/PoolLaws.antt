@@ -12,9 +12,11 @@ use borrow.Author.Tests.{eqb-true, eqb-false, lt-ltb, le-ltb, ltb-true, ltb-fals
 use Rattle.std.specs.Prelude.{Option, Some, None, count_by, MatchOption, EachIndex, slice_index_or}
 use Rattle.std.specs.Option.{unwrap_or}
 use Rattle.std.proofs.lemmas.List.Sums.{count_by_more_yes, count_by_more_no}
+use Rattle.std.proofs.lemmas.Bool.{eq-eqb, ne_eqb}
 use Rattle.layout.proofs.Cases.{by_cases, apart}
 use Rattle.frame_pool.specs.FramePool.{Mark, same_mark, frame_count, share, count_marked, highest_free, has_mark, other_decoder, free_frames, lacks, with_mark, is_held_by, TakeReply, TakeCall}
 use Rattle.frame_pool.specs.FramePool.{served_take, refused_take, take_of, accepted_give, refused_give, give_of}
+use Rattle.frame_pool.specs.MarkBytes.{mark_byte}
 use Rattle.frame_pool.specs.declared.DecoderId.{DecoderId}
 use Rattle.frame_pool.specs.declared.Pool.{Pool}
 
@@ -42,6 +44,25 @@ same_mark-false m n h e = apart (sym (eq-same_mark m n e) ∙ h)
 
 pub ne-same_mark : (m n : Mark) → (m ≡ n → ⊥) → same_mark m n ≡ false
 ne-same_mark m n h = by_cases (same_mark m n) (λ t. absurd (h (same_mark-true m n t))) (λ t. t)
+
+-- A mark's byte tells it from the others.
+byte_tells : (m n : Mark) → eqb (mark_byte m) (mark_byte n) ≡ same_mark m n
+byte_tells None None = refl
+byte_tells None (Some DecoderId.A) = refl
+byte_tells None (Some DecoderId.B) = refl
+byte_tells (Some DecoderId.A) None = refl
+byte_tells (Some DecoderId.A) (Some DecoderId.A) = refl
+byte_tells (Some DecoderId.A) (Some DecoderId.B) = refl
+byte_tells (Some DecoderId.B) None = refl
+byte_tells (Some DecoderId.B) (Some DecoderId.A) = refl
+byte_tells (Some DecoderId.B) (Some DecoderId.B) = refl
+
+module _ (m n : Mark) {a b : ℕ} (h : a ≡ mark_byte m) (k : b ≡ mark_byte n) where
+  pub bytes_alike : a ≡ b → same_mark m n ≡ true
+  bytes_alike e = sym (byte_tells m n) ∙ eq-eqb (mark_byte m) (mark_byte n) (sym h ∙ e ∙ k)
+
+  pub bytes_apart : (a ≡ b → ⊥) → same_mark m n ≡ false
+  bytes_apart e = sym (byte_tells m n) ∙ ne_eqb (mark_byte m) (mark_byte n) (λ q. e (h ∙ q ∙ sym k))
 
 -- ---- Counting, from frame 0 on
 

@@ -1,3 +1,4 @@
 pub mod FramePool
 pub mod HighestFree
 pub mod FrameLists
+pub mod MarkBytes

@@ -1,17 +1,29 @@
 // The marks of the frames: free, or a decoder's.
 ghost use Rattle.std.specs.Prelude.{◌≡◌};
 ghost use Rattle.frame_pool.specs.FramePool.{frame_count, count_marked, highest_free, has_mark};
+ghost use Rattle.frame_pool.specs.MarkBytes.{mark_byte};
 
-use crate::{FRAMES, Mark};
+use crate::{DecoderId, FRAMES, Mark};
 
-// How many frames have this mark.
+// A mark in one byte: a mark itself takes two.
+fn byte_of(mark: Mark) -> u8
+    ensures { result ≡ mark_byte mark }
+{
+    match mark {
+        None => 0,
+        Some(DecoderId::A) => 1,
+        Some(DecoderId::B) => 2,
+    }
+}
+
+// How many frames have this mark. Compared by their bytes, all sixteen are so at once; as marks, one after the other.
 pub(crate) fn count(marks: &[Mark; FRAMES], mark: Mark) -> usize
     ensures { result ≡ count_marked frame_count mark marks.now }
 {
-    // By index: over a chain with a closure for each mark `pool` takes a third more time.
+    let byte = byte_of(mark);
     let mut n = 0;
     for i in 0..FRAMES {
-        if marks[i] == mark {
+        if byte_of(marks[i]) == byte {
             n += 1;
         }
     }

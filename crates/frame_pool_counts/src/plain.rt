@@ -17,11 +17,28 @@ pub(crate) fn other(who: DecoderId) -> DecoderId {
     }
 }
 
-// How many frames have this holder.
+// A holder in one byte: as it is, it takes two.
+fn byte_of(holder: Option<DecoderId>) -> u8 {
+    match holder {
+        None => 0,
+        Some(DecoderId::A) => 1,
+        Some(DecoderId::B) => 2,
+    }
+}
+
+// How many frames have this holder. Compared by their bytes, all sixteen are so at once; inlined, two counts take the bytes once.
+#[inline(always)]
 pub(crate) fn count(holders: &Holders, holder: Option<DecoderId>) -> usize
     ensures { result ≤ 16 }
 {
-    holders.iter().filter(|h| **h == holder).count()
+    let byte = byte_of(holder);
+    let mut n = 0;
+    for i in 0..FRAMES {
+        if byte_of(holders[i]) == byte {
+            n += 1;
+        }
+    }
+    n
 }
 
 // What a decoder that holds so many lacks to six: a signed number, cut at 0.

@@ -12,7 +12,7 @@ ghost use Rattle.c_cues.specs.KeptCues.{cursor_in, CursorBack, put_cursor, fille
 use crate::bytes::put_answer;
 use c_opened::failure::Failure;
 use c_opened::fields::put_long;
-use c_opened::opened::reader_in;
+use c_opened::opened::kept_reader;
 use layout::DspFormat;
 use layout::limits::BLOCK_LIMIT;
 use layout::refusal::Refusal;
@@ -158,7 +158,7 @@ pub fn cue_calls(
     if cursor.len() < CURSOR_SIZE {
         return Err(Failure::NoRoom);
     }
-    let r = reader_in(kept, 0, BLOCK_LIMIT)?;
+    let r = kept_reader(kept, 0, BLOCK_LIMIT)?;
     if out.len() < CUE_SIZE {
         return Err(Failure::Refused(Refusal::LentTooShort));
     }

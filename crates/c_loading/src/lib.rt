@@ -9,7 +9,7 @@ ghost use Rattle.c_loading.specs.KeptLoading.{kept_says, numbered, place_in, cal
 
 use c_opened::failure::Failure;
 use c_record::Fields;
-use c_record::loader::{mode_in, writer_in};
+use c_record::loader::{kept_writer, mode_in};
 use c_record::places::LOADER_SIZE;
 use c_record_put::numbers::{put_finished, put_numbers};
 use c_record_put::put_sides;
@@ -69,7 +69,7 @@ pub fn cue_kept(kept: &mut [u8], c: Cue) -> Result<Place, Failure>
     ensures kept_after { kept.new ≡ given_after (kept_says result).number kept.old (bytes_cued kept.old (cue_of (writer_in kept.old) c)) }
     ensures kept_after_2 { writer_in kept.new ≡ given_after (kept_says result).number (writer_in kept.old) (cue_of (writer_in kept.old) c).writer }
 {
-    let w = writer_in(kept)?;
+    let w = kept_writer(kept)?;
     let call = cue(w, c);
     let place = place_in(call.answer)?;
     put_table(kept, &call.writer.table);
@@ -84,7 +84,7 @@ pub fn finish_kept(kept: &mut [u8], lent: &mut [u8]) -> Result<Place, Failure>
     ensures kept_after { kept.new ≡ given_after (kept_says result).number kept.old (bytes_finished kept.old) }
     ensures kept_after_2 { writer_in kept.new ≡ given_after (kept_says result).number (writer_in kept.old) (finish_of (writer_in kept.old) lent.old).writer }
 {
-    let w = writer_in(kept)?;
+    let w = kept_writer(kept)?;
     let call = finish(w, lent);
     let place = place_in(call.answer)?;
     put_finished(kept);

@@ -8,7 +8,7 @@ use crate::failure::Failure;
 use layout::limits::{BLOCK_LIMIT, FILE_HEADER_SIZE};
 use layout_number_or_zero::word;
 use layout_read::channels::read_channel;
-use reader::HpsReader;
+use reader::{HpsReader, no_reader};
 
 pub const BLOCKS_AT: usize = FILE_HEADER_SIZE;
 
@@ -44,36 +44,48 @@ fn offsets_in(kept: &[u8], from: usize, to: usize) -> [u32; BLOCK_LIMIT]
     offsets
 }
 
-// The record that lent bytes hold, if they hold one of a channel or two. Whatever they are, it meets the premise of the reading calls.
+// The record that lent bytes hold, one of no channel where they hold none. Whatever they are, it meets the premise of the reading calls.
 // Of the offsets it has those of the blocks from one to another, which are all that the call needs.
-pub fn reader_in(kept: &[u8], from: usize, to: usize) -> Result<HpsReader, Failure>
-    ensures value { result ≡ where_opened (part_in kept.now from to) }
-    ensures readable { IfOk result Readable }
+pub fn reader_in(kept: &[u8], from: usize, to: usize) -> HpsReader
+    ensures value { result ≡ part_in kept.now from to }
+    ensures readable { Readable result }
 {
     if kept.len() < OPENED_SIZE {
-        return Err(Failure::NoRecord);
+        return no_reader();
     }
     let count = word(kept, 12) as usize;
     let blocks = word(kept, BLOCKS_AT) as usize;
-    if count == 0 || count > 2 || blocks > BLOCK_LIMIT {
-        return Err(Failure::NoRecord);
+    if count > 2 || blocks > BLOCK_LIMIT {
+        return no_reader();
     }
     let Ok(left) = read_channel(kept, 16) else {
-        return Err(Failure::NoRecord);
+        return no_reader();
     };
     let Ok(right) = read_channel(kept, 72) else {
-        return Err(Failure::NoRecord);
+        return no_reader();
     };
     let offsets = offsets_in(kept, from, to.min(blocks));
     let loop_start = loop_of(word(kept, LOOP_AT));
-    Ok(HpsReader {
+    HpsReader {
         rate: word(kept, 8),
         count,
         channels: [left, right],
         blocks,
         offsets,
         loop_start,
-    })
+    }
+}
+
+// The same where they hold one of a channel or two.
+pub fn kept_reader(kept: &[u8], from: usize, to: usize) -> Result<HpsReader, Failure>
+    ensures value { result ≡ where_opened (part_in kept.now from to) }
+    ensures readable { IfOk result Readable }
+{
+    let r = reader_in(kept, from, to);
+    if r.count == 0 {
+        return Err(Failure::NoRecord);
+    }
+    Ok(r)
 }
 
 // What put_opened puts for an opening's record, reader_in reads back.

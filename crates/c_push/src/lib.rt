@@ -11,7 +11,7 @@ ghost use Rattle.c_loading.specs.KeptLoading.{kept_says, numbered, on_kept, give
 
 use c_opened::failure::Failure;
 use c_record::Fields;
-use c_record::loader::{held_kept, put_taken_kept, stream_in, take_kept};
+use c_record::loader::{held_kept, kept_stream, put_taken_kept, take_kept};
 use c_record_put::put_pushed;
 use layout::limits::BLOCK_HEADER_SIZE;
 use layout_put_block::put_header;
@@ -23,7 +23,7 @@ use writer_push_plan::{block_end, plan_push};
 pub fn without_side(kept: &[u8]) -> Failure
     ensures { failure_number result ≡ pick (eqb (stream_in kept.now).setup.slot 0) 254 251 }
 {
-    match stream_in(kept) {
+    match kept_stream(kept) {
         Ok(_) => Failure::NoSide,
         Err(none) => none,
     }
@@ -48,7 +48,7 @@ pub fn push_kept(
         × (kept.new ≡ given_after (kept_says result).number kept.old (bytes_pushed kept.old o))
         × (writer_in kept.new ≡ given_after (kept_says result).number (writer_in kept.old) o.writer) }
 {
-    let f = stream_in(kept)?;
+    let f = kept_stream(kept)?;
     let end = block_end(f.stream.base, left.length);
     let taken = take_kept(kept, f, end, last);
     let held = held_kept(kept, f);

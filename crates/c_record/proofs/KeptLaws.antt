@@ -1,11 +1,11 @@
 -- The record that bytes stand for: its tests one by one, and the premise of the loading calls that follows from them.
 use Rattle.std.specs.Prelude.{Option, Some, None}
 use Prim.Native.Nat.{ℕ, ◌+◌, ◌<◌, ◌≤◌}
-use mathlib.Core.Path.{◌≡◌, refl, sym}
+use mathlib.Core.Path.{◌≡◌, refl, sym, ap, ◌∙◌}
 use mathlib.Core.Bool.{Bool, true, false}
 use mathlib.Core.List.{List}
 use native.Mathlib.Omega.{arith}
-use borrow.Author.Tests.{eq-eqb, ne_eqb, le-leb, lt-leb, leb-true, ltb-true, eqb-true, eqb-false}
+use borrow.Author.Tests.{le-leb, lt-leb, leb-true, ltb-true, eqb-false}
 use lib.ListN.{length}
 use lib.Dec.{leb, eqb}
 use Rattle.layout.specs.Choice.{◌and◌}
@@ -15,7 +15,6 @@ use Rattle.writer.specs.Push.{loop_from, loops_here}
 use Rattle.writer.proofs.GoodLaws.{blank_good}
 use Rattle.writer.specs.declared.Looping.{Looping}
 use Rattle.std.proofs.Common.{Ok, Err}
-use Rattle.c_opened.specs.declared.failure.Failure.{Failure}
 use Rattle.c_opened.specs.declared.failure.Failure.TheVariants.{NoRecord}
 use Rattle.c_record.specs.Fields.{fields_of, writer_of}
 use Rattle.c_record.specs.declared.Fields.{Fields}
@@ -27,25 +26,18 @@ use Rattle.layout.specs.Refusals.{cue_limit}
 -- ---- The record without its table
 
 module _ (kept : List ℕ) where
-  pub none_short : length kept < loader_size → Err NoRecord ≡ where_held (stream_in kept) (stream_in kept)
+  pub too_short_lem : length kept < loader_size → (s : Fields) → s ≡ fields_of blank → s ≡ stream_in kept
   unfolding stream_in
-  none_short h = rw (lt-leb loader_size (length kept) h)
+  too_short_lem h s e = e ∙ rw (lt-leb loader_size (length kept) h)
 
-  module _ (h : loader_size ≤ length kept) (f : Fields) (fields : f ≡ fields_in kept) where
-    pub held_there : 0 < f.setup.slot → true ≡ sensible f → Ok f ≡ where_held (stream_in kept) (stream_in kept)
+  module _ (h : loader_size ≤ length kept) (f : Fields) (fields : f ≡ fields_in kept) (b : Bool) (is : b ≡ sensible f) where
+    pub holds_record : b ≡ true → f ≡ stream_in kept
     unfolding stream_in
-    held_there some is =
-        rw (le-leb loader_size (length kept) h, ← fields, ← is, ne_eqb f.setup.slot 0 (λ z. omega arith))
+    holds_record e = fields ∙ rw (le-leb loader_size (length kept) h, ap sensible (sym fields) ∙ sym is ∙ e)
 
-    pub none_there : f.setup.slot ≡ 0 → Err NoRecord ≡ where_held (stream_in kept) (stream_in kept)
+    pub holds-none : b ≡ false → (s : Fields) → s ≡ fields_of blank → s ≡ stream_in kept
     unfolding stream_in
-    none_there z =
-        rw (le-leb loader_size (length kept) h, ← fields)
-        (by_cases (sensible f) (λ t. rw (t, eq-eqb f.setup.slot 0 z)) (λ t. rw t))
-
-    pub none_sensible : false ≡ sensible f → Err NoRecord ≡ where_held (stream_in kept) (stream_in kept)
-    unfolding stream_in
-    none_sensible is = rw (le-leb loader_size (length kept) h, ← fields, ← is)
+    holds-none e s es = es ∙ rw (le-leb loader_size (length kept) h, ap sensible (sym fields) ∙ sym is ∙ e)
 
 -- what is given is this, of a record of a slot that has bytes
 pub held_gives : {A : Type 0} (f : Fields) (x y : A) → Ok y ≡ where_held f x → (y ≡ x) × (f.setup.slot ≡ 0 → ⊥)

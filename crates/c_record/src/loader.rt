@@ -4,7 +4,8 @@ ghost use Rattle.std.proofs.Math.Seq.{slice};
 ghost use Rattle.layout.specs.Records.{padded_size};
 ghost use Rattle.layout.specs.Puts.{put_at};
 ghost use Rattle.writer.specs.Loading.{any_loop, mode_of};
-ghost use Rattle.c_record.specs.Fields.{fields_of};
+ghost use Rattle.writer.specs.Calls.{blank};
+ghost use Rattle.c_record.specs.Fields.{fields_of, writer_of};
 ghost use Rattle.c_record.specs.KeptWriter.{loop_offset, fields_in, places_good, sums_good, marks_good, loops_within, sensible, stream_in, writer_in, where_held, taken_in, held_in};
 ghost use Rattle.writer_assign_cues.specs.Taking.{filled_bytes, Taking};
 ghost use Rattle.c_record.specs.KeptSides.{table_in, cues_at, where_kind};
@@ -16,9 +17,10 @@ use crate::places::{
 };
 use crate::{Fields, cues_in, side_in};
 use c_opened::failure::Failure;
+use layout::FrameContext;
 use layout::limits::{BLOCK_LIMIT, CUE_LIMIT, LENGTH_LIMIT, SLOT_LIMIT};
 use layout_number_or_zero::{long, word};
-use writer::{CueTable, HpsWriter, Looping, Setup, Stream};
+use writer::{ChannelBlock, CueTable, HpsWriter, Looping, Setup, Stream};
 use writer_assign_cues::{Taken, any_loop, put_taken, take};
 
 // No block of the stream is the loop block.
@@ -146,19 +148,66 @@ fn fields_in(kept: &[u8]) -> Fields
     }
 }
 
-// The record that lent bytes hold, without its table. Where they hold one it is one of a slot that has bytes.
-pub fn stream_in(kept: &[u8]) -> Result<Fields, Failure>
-    ensures { result ≡ where_held (stream_in kept.now) (stream_in kept.now) }
+// The record of a refused begin, of a slot of no bytes: it stands for bytes that hold no record.
+fn no_stream() -> Fields
+    ensures { result ≡ fields_of blank }
+{
+    let side = ChannelBlock {
+        rate: 0,
+        length: 0,
+        coefficients: [0i16; 16],
+        gain: 0,
+        context: FrameContext {
+            predictor_and_scale: 0,
+            last: 0,
+            oldest: 0,
+        },
+    };
+    let setup = Setup {
+        slot: 0,
+        channels: 0,
+        mode: Looping::Disabled,
+    };
+    let stream = Stream {
+        next: 0,
+        id: 0,
+        base: 0,
+        offset: 0,
+        loopat: None,
+        blocks: 0,
+        sum: 0,
+        left: side,
+        right: side,
+        last: false,
+    };
+    Fields {
+        setup,
+        count: 0,
+        stream,
+        finished: false,
+    }
+}
+
+// The record that lent bytes hold, without its table; that of a refused begin where they hold none.
+pub fn stream_in(kept: &[u8]) -> Fields
+    ensures { result ≡ stream_in kept.now }
 {
     if kept.len() < LOADER_SIZE {
-        return Err(Failure::NoRecord);
+        return no_stream();
     }
     let f = fields_in(kept);
-    if f.setup.slot > 0 && is_sensible(f) {
-        Ok(f)
-    } else {
-        Err(Failure::NoRecord)
+    if is_sensible(f) { f } else { no_stream() }
+}
+
+// The same where they hold one, of a slot that has bytes.
+pub fn kept_stream(kept: &[u8]) -> Result<Fields, Failure>
+    ensures { result ≡ where_held (stream_in kept.now) (stream_in kept.now) }
+{
+    let f = stream_in(kept);
+    if f.setup.slot == 0 {
+        return Err(Failure::NoRecord);
     }
+    Ok(f)
 }
 
 impl From<HpsWriter> for Fields {
@@ -176,15 +225,15 @@ impl From<HpsWriter> for Fields {
     }
 }
 
-// The whole record that lent bytes hold. Whatever they are, it meets the premise of the loading calls.
-pub fn writer_in(kept: &[u8]) -> Result<HpsWriter, Failure>
-    ensures { result ≡ where_held (stream_in kept.now) (writer_in kept.now) }
+// The record of these fields, with the table of the lent bytes.
+fn with_table(kept: &[u8], f: Fields) -> HpsWriter
+    requires { f.count ≤ cue_limit }
+    ensures { result ≡ writer_of (table_in kept.now cues_at f.count) f }
 {
-    let f = stream_in(kept)?;
     let setup = f.setup;
     let stream = f.stream;
     let cues = cues_in(kept, CUES_AT, f.count);
-    Ok(HpsWriter {
+    HpsWriter {
         setup,
         table: CueTable {
             cues,
@@ -192,7 +241,22 @@ pub fn writer_in(kept: &[u8]) -> Result<HpsWriter, Failure>
         },
         stream,
         finished: f.finished,
-    })
+    }
+}
+
+// The whole record. Whatever the bytes are, it meets the premise of the loading calls.
+pub fn writer_in(kept: &[u8]) -> HpsWriter
+    ensures { result ≡ writer_in kept.now }
+{
+    with_table(kept, stream_in(kept))
+}
+
+// The same where the bytes hold one.
+pub fn kept_writer(kept: &[u8]) -> Result<HpsWriter, Failure>
+    ensures { result ≡ where_held (stream_in kept.now) (writer_in kept.now) }
+{
+    let f = kept_stream(kept)?;
+    Ok(with_table(kept, f))
 }
 
 // The cues that a block takes of the table: where none is left the table is not looked into.

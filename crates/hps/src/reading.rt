@@ -12,7 +12,7 @@ ghost use Rattle.layout.specs.Refusals.{block_limit};
 
 use crate::{END, NO_RECORD, NO_ROOM};
 use c_cues::cue_calls;
-use c_opened::opened::{OPENED_SIZE, reader_in};
+use c_opened::opened::{OPENED_SIZE, kept_reader};
 use c_opened::put::put_opened;
 use key_listing::listing::fill;
 use key_listing::start::start_listing;
@@ -87,7 +87,7 @@ pub extern "C" fn hps_block(
         (block_read slot.now (reader_in kept.now) channel position.entry.now)) }
 {
     let at = *position;
-    let Ok(r) = reader_in(kept, at, past(at)) else {
+    let Ok(r) = kept_reader(kept, at, past(at)) else {
         return NO_RECORD;
     };
     let call = read_block(slot, r, channel, at);
@@ -119,7 +119,7 @@ pub extern "C" fn hps_remaining(
     ensures value { result ≡ on_record (reader_in kept.now) (remaining_number (data_remaining slot.now (reader_in kept.now) position)) }
     ensures addresses_after { addresses.new ≡ addresses_after (reader_in kept.now) addresses.old (data_remaining slot.now (reader_in kept.now) position) }
 {
-    let Ok(r) = reader_in(kept, position, BLOCK_LIMIT) else {
+    let Ok(r) = kept_reader(kept, position, BLOCK_LIMIT) else {
         return NO_RECORD;
     };
     match data_remaining(slot, r, position) {

@@ -220,6 +220,29 @@ module _ (kept : List ℕ) (from to : ℕ) where
 
 -- ---- The record where the bytes hold one
 
+module _ (kept : List ℕ) (from to : ℕ) where
+  pub none_held : no_reader ≡ part_in kept from to → Err NoRecord ≡ where_opened (part_in kept from to)
+  none_held e = rw (← e)
+
+  pub record_held : (q : HpsReader) → (q.count ≡ 0 → ⊥) → q ≡ part_in kept from to → Ok q ≡ where_opened (part_in kept from to)
+  record_held q some e = rw (← e, ne_eqb q.count 0 some)
+
+  no_count : (a b : Read Channel) → u32_at kept 12 ≡ 0 → (at_channels kept from to a b).count ≡ 0
+  no_count (Read.refused n) b z = refl
+  no_count (Read.value l) (Read.refused n) z = refl
+  no_count (Read.value l) (Read.value r) z = z
+
+  part_none : u32_at kept 12 ≡ 0 → (part_in kept from to).count ≡ 0
+  unfolding part_in
+  part_none z =
+      by_cases (ltb (length kept) opened_size) (λ t. rw t) (λ t.
+      by_cases (ltb 2 (u32_at kept 12)) (λ u. rw (t, u)) (λ u.
+      by_cases (ltb block_limit (u32_at kept file_header_size)) (λ v. rw (t, u, v)) (λ v.
+      rw (t, u, v) (no_count (read_channel kept 16) (read_channel kept 72) z))))
+
+  pub none_counted : {count : ℕ} → opened_size ≤ length kept → count ≡ word_at kept 12 → count ≡ 0 → Err NoRecord ≡ where_opened (part_in kept from to)
+  none_counted h c z = rw (eq-eqb (part_in kept from to).count 0 (part_none (sym (c ∙ word_in kept 12 (omega arith)) ∙ z)))
+
 -- what is given is the record that the bytes stand for, and where nothing is given it is of no channel
 pub opened_gives : (x r : HpsReader) → Ok r ≡ where_opened x → (r ≡ x) × (r.count ≡ 0 → ⊥)
 opened_gives x r e =

@@ -5,7 +5,7 @@ use mathlib.Core.Path.{◌≡◌, refl, sym, ap, ◌∙◌}
 use mathlib.Core.Bool.{Bool, true, false}
 use mathlib.Core.List.{List}
 use native.Mathlib.Omega.{arith}
-use borrow.Author.Tests.{le-leb, lt-leb, leb-true, ltb-true, eqb-false}
+use borrow.Author.Tests.{eq-eqb, ne_eqb, le-leb, lt-leb, leb-true, ltb-true, eqb-false}
 use lib.ListN.{length}
 use lib.Dec.{leb, eqb}
 use Rattle.layout.specs.Choice.{◌and◌}
@@ -38,6 +38,28 @@ module _ (kept : List ℕ) where
     pub holds-none : b ≡ false → (s : Fields) → s ≡ fields_of blank → s ≡ stream_in kept
     unfolding stream_in
     holds-none e s es = es ∙ rw (le-leb loader_size (length kept) h, ap sensible (sym fields) ∙ sym is ∙ e)
+
+-- the same of what is given where the bytes hold one of a slot that has bytes
+module _ (kept : List ℕ) where
+  pub none_short : length kept < loader_size → Err NoRecord ≡ where_held (stream_in kept) (stream_in kept)
+  unfolding stream_in
+  none_short h = rw (lt-leb loader_size (length kept) h)
+
+  module _ (h : loader_size ≤ length kept) (f : Fields) (fields : f ≡ fields_in kept) where
+    pub held_there : 0 < f.setup.slot → true ≡ sensible f → Ok f ≡ where_held (stream_in kept) (stream_in kept)
+    unfolding stream_in
+    held_there some is =
+        rw (le-leb loader_size (length kept) h, ← fields, ← is, ne_eqb f.setup.slot 0 (λ z. omega arith))
+
+    pub none_there : f.setup.slot ≡ 0 → Err NoRecord ≡ where_held (stream_in kept) (stream_in kept)
+    unfolding stream_in
+    none_there z =
+        rw (le-leb loader_size (length kept) h, ← fields)
+        (by_cases (sensible f) (λ t. rw (t, eq-eqb f.setup.slot 0 z)) (λ t. rw t))
+
+    pub none_sensible : false ≡ sensible f → Err NoRecord ≡ where_held (stream_in kept) (stream_in kept)
+    unfolding stream_in
+    none_sensible is = rw (le-leb loader_size (length kept) h, ← fields, ← is)
 
 -- what is given is this, of a record of a slot that has bytes
 pub held_gives : {A : Type 0} (f : Fields) (x y : A) → Ok y ≡ where_held f x → (y ≡ x) × (f.setup.slot ≡ 0 → ⊥)

@@ -120,7 +120,8 @@ module _ (n : ℕ) (w : HpsWriter) (lent : List ℕ) (next : HpsWriter) (h : Han
       let k = logs_all (places_in o.reply) g o.lent t.listed (room_for n w lent next h g.log g.bytes t.listed f) in
       record { tally = tally_after n w lent next h g.log g.bytes t c k; is = k.is; put = k.put }
 
-by_number : (a : Result Writes Refusal) → reply_by number_of a ≡ reply_says a
+-- An answer whose refusals are told by their numbers is the reply.
+pub by_number : (a : Result Writes Refusal) → reply_by number_of a ≡ reply_says a
 by_number (Err r) = refl
 by_number (Ok Writes.None) = refl
 by_number (Ok (Writes.One p)) = refl
@@ -128,13 +129,19 @@ by_number (Ok (Writes.Three n p q r)) = refl
 
 -- What a call leaves, by its outcome.
 pub call_made : (o : Outcome) (g : Logging) (call : Called) {l : List ℕ} {q : WriteLog} {after : List ℕ} → (called_says call ≡ called o) × ((l ≡ o.lent) × Good call.writer)
-    → (q ≡ (log_all g l 0 (places_in (reply_by number_of call.answer))).log) × (after ≡ (log_all g l 0 (places_in (reply_by number_of call.answer))).bytes)
+    → (q ≡ (log_all g l 0 (places_in (reply_says call.answer))).log) × (after ≡ (log_all g l 0 (places_in (reply_says call.answer))).bytes)
     → (made_says (record { writer = call.writer; answer = call.answer; log = q }) ≡ made_by o g) × ((after ≡ (log_after o g).bytes) × Good call.writer)
 unfolding log_after
 call_made o g call b h =
-    let r : reply_by number_of call.answer ≡ o.reply = by_number call.answer ∙ ap (λ (x : Replied). x.reply) b.0 in
+    let r : reply_says call.answer ≡ o.reply = ap (λ (x : Replied). x.reply) b.0 in
     let w : call.writer ≡ o.writer = ap (λ (x : Replied). x.writer) b.0 in
     (rw (h.0, b.1.0, r, w), (h.1 ∙ rw (r, b.1.0), b.1.1))
+
+-- The same where the refusals' numbers are told by a function.
+pub call_made_by : (o : Outcome) (g : Logging) (call : Called) {l : List ℕ} {q : WriteLog} {after : List ℕ} → (called_says call ≡ called o) × ((l ≡ o.lent) × Good call.writer)
+    → (q ≡ (log_all g l 0 (places_in (reply_by number_of call.answer))).log) × (after ≡ (log_all g l 0 (places_in (reply_by number_of call.answer))).bytes)
+    → (made_says (record { writer = call.writer; answer = call.answer; log = q }) ≡ made_by o g) × ((after ≡ (log_after o g).bytes) × Good call.writer)
+call_made_by o g call b h = call_made o g call b (rw (by_number call.answer) at h)
 
 -- ---- Push
 

@@ -1,7 +1,7 @@
 use borrow.Author.Rules.{rules}
 use native.Mathlib.Omega.{arith}
 use Rattle.layout.proofs.FieldLaws.{got, missed, passed, failed}
-use Rattle.layout_read.proofs.ReadLaws.{header_out, cues_out, header_made}
+use Rattle.layout_read.proofs.ReadLaws.{header_out, cues_out, header_of_fields}
 use Rattle.layout_read.proofs.block.read_header.Goals as goal
 
 pub returns-in_err-size : goal.returns-in_err-size
@@ -36,7 +36,7 @@ returns-in_err-count c = header_out _ _ _ _ c.from_residual-in_err-count.ensures
 
 pub returns-then-inside : goal.returns-then-inside
 returns-then-inside c =
-    header_made _ _ (got c.in_ok-count.ensures) (got c.in_ok-size.ensures) (got c.in_ok-end_address.ensures) (got c.in_ok-next_offset.ensures)
+    header_of_fields _ _ (got c.in_ok-count.ensures) (got c.in_ok-size.ensures) (got c.in_ok-end_address.ensures) (got c.in_ok-next_offset.ensures)
     (got c.in_ok-left_scale.ensures) (got c.in_ok-left_last.ensures) (got c.in_ok-left_oldest.ensures)
     (got c.in_ok-right_scale.ensures) (got c.in_ok-right_last.ensures) (got c.in_ok-right_oldest.ensures)
     (search rules) (search rules) (search rules) (search rules) (omega (arith, passed c.inside.ensures c.if-inside.true, c.div_ceil.ensures))
